@@ -1,53 +1,66 @@
-"""What the folder of a node holds whose `als` is stopped."""
+"""The folder of a node, and what is written beside it."""
 import json
 import os
-import re
 import shutil
-import subprocess
+
+from rules import Note
+
+CHUNK = 1 << 20
 
 
 class Folder:
-    """A folder, and beside it what the agent writes down of it: DIR.claims, DIR.rebuilt."""
+    """A folder, and beside it what the agent writes down of it: DIR.claims, a note, and DIR.rebuilt, the end from which on it counts."""
 
-    def __init__(self, als, path):
-        self.als, self.path, self.log, self.noted, self.rebuilt = als, path, f"{path}.log", f"{path}.claims", f"{path}.rebuilt"
+    def __init__(self, path):
+        self.path, self.log, self.noted, self.rebuilt = path, f"{path}.log", f"{path}.claims", f"{path}.rebuilt"
         os.makedirs(path, exist_ok=True)
 
     def is_empty(self):
-        return not os.listdir(self.path)
+        """Whether it has no database: a layout that was stopped in its middle has none, and `als` begins it again."""
+        if not os.path.isdir(self.path) or os.path.exists(os.path.join(self.path, "control.blk")):
+            return not os.path.isdir(self.path)
+        return all(is_blank(os.path.join(self.path, name)) for name in ("log.blk", "pages.blk"))
 
-    def held(self):
-        """The claims below the log's end, the end, and the seals of its history. None: it can't be read."""
-        said = subprocess.run([self.als, "status", self.path], capture_output=True, text=True).stdout
-        end, seals = re.search(r"\bend=(\d+)", said), re.search(r"^epoch \d+ seals (.*)$", said, re.M)
-        if end is None and not self.is_empty():
+    def clear(self):
+        """Makes room for a database where there is none."""
+        os.makedirs(self.path, exist_ok=True)
+        for name in ("log.new", "pages.new", "control.new", "role.new", "role"):
+            if os.path.exists(os.path.join(self.path, name)):
+                os.remove(os.path.join(self.path, name))
+
+    def note(self):
+        """What is written down of it. None: nothing is."""
+        if not os.path.exists(self.noted):
             return None
-        own, leader = json.load(open(self.noted)) if os.path.exists(self.noted) else ([], {})
-        end, seals = int(end[1]) if end else 0, seals[1] if seals else ""
-        # It has the leader's history exactly where it adopted it.
-        claims = leader["claims"] if leader.get("seals") == seals else own
-        return {"claims": [it for it in claims if it[1] < end], "end": end, "seals": seals}
+        with open(self.noted, encoding="utf-8") as file:
+            words = json.load(file)
+        if len(words) == 2:
+            # As an older agent wrote it.
+            words = [words[0], None, *(words[1].get(name, other) for name, other in (("name", ""), ("claims", []), ("seals", None)))]
+        it = Note(*words)
+        return it._replace(claims=pairs(it.claims), leader_claims=pairs(it.leader_claims))
 
-    def note(self, own, leader):
-        """Writes down the claims of its log, and the leader that it is to follow."""
-        write(self.noted, json.dumps([own, leader]))
+    def wanted(self):
+        """The end from which on it counts."""
+        if not os.path.exists(self.rebuilt):
+            return 0
+        with open(self.rebuilt, encoding="utf-8") as file:
+            return int(file.read())
 
-    def is_whole(self, end):
-        """Whether it counts: one that began anew does once it holds what the leader held then."""
-        return not os.path.exists(self.rebuilt) or end >= int(open(self.rebuilt).read())
-
-    def empty(self, end):
-        """Puts what it holds aside, once it is written down what it has to hold before it counts again."""
-        write(self.rebuilt, str(end))
+    def put_aside(self):
         shutil.rmtree(f"{self.path}.parted", ignore_errors=True)
         os.rename(self.path, f"{self.path}.parted")
         os.mkdir(self.path)
+        sync(os.path.dirname(self.path))
 
-    def refusal(self):
-        """The number of the last refusal of its `als`."""
-        with open(self.log, encoding="utf-8", errors="replace") as file:
-            found = re.findall(r"refused (\d+)", file.read())
-        return int(found[-1]) if found else 0
+
+def is_blank(path):
+    """Whether a file is not there, or has no byte but zeros behind a log's header."""
+    if not os.path.exists(path):
+        return True
+    with open(path, "rb") as file:
+        file.seek(16)
+        return not any(chunk.count(0) < len(chunk) for chunk in iter(lambda: file.read(CHUNK), b""))
 
 
 def write(path, text):
@@ -57,3 +70,17 @@ def write(path, text):
         file.flush()
         os.fsync(file.fileno())
     os.rename(f"{path}.new", path)
+    sync(os.path.dirname(path))
+
+
+def sync(path):
+    """Names in a folder are what they are, whatever ends the machine."""
+    folder = os.open(path, os.O_RDONLY)
+    try:
+        os.fsync(folder)
+    finally:
+        os.close(folder)
+
+
+def pairs(claims):
+    return None if claims is None else tuple(map(tuple, claims))

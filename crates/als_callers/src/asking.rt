@@ -8,6 +8,9 @@ use std::{io, thread};
 /// Bytes of a question, at least. A thread reads it once these are there.
 const FRONT: usize = 29;
 
+/// The letter R: a question of this byte alone.
+const RANK: u8 = 82;
+
 /// Milliseconds within which a question has to arrive.
 const QUESTION: u64 = 5_000;
 
@@ -31,7 +34,7 @@ impl<S: OpenStream> Came<S> {
     fn is_heard(&self) -> bool {
         let mut bytes = [0; FRONT];
         match self.stream.peek(&mut bytes) {
-            Ok(count) => count == 0 || count >= FRONT,
+            Ok(count) => count == 0 || count >= FRONT || bytes[0] == RANK,
             Err(e) => !is_late(e.kind()),
         }
     }

@@ -85,4 +85,8 @@ impl<R: Wait + Clock + Clone + Drop, P: Pulse + Drop> Serves for StandbySource<R
         let mut writer = UnderEra::new(&self.rt, &self.era, adopted.number, writer);
         source.serve(alloc, marks, window, reader, &mut writer)
     }
+
+    fn knock(&self) {
+        self.tail.begin_round(&self.rt);
+    }
 }

@@ -1,3 +1,5 @@
+use crate::peers::Peers;
+
 /// What the command line asks for.
 #[derive(Clone, Copy)]
 pub enum Command<'a> {
@@ -17,7 +19,7 @@ pub enum Command<'a> {
         timeout: u64,
         keep: bool,
         follow: bool,
-        window: u32,
+        window: Option<u32>,
         explain: bool,
     },
     /// The log of a folder's node to one follower, or to one after another.
@@ -26,7 +28,7 @@ pub enum Command<'a> {
         listen: &'a str,
         timeout: u64,
         keep: bool,
-        window: u32,
+        window: Option<u32>,
         explain: bool,
     },
     /// One session as the standby of a folder, or one after another.
@@ -40,16 +42,25 @@ pub enum Command<'a> {
         timeout: u64,
         keep: bool,
         serve: Option<&'a str>,
-        readers: u64,
+        readers: Option<u64>,
         forget_unreached: bool,
+        uncompared: bool,
         listen: Option<&'a str>,
-        window: u32,
+        window: Option<u32>,
         followers: Option<&'a str>,
         explain: bool,
     },
-    /// A standby to a primary.
+    /// A standby to a primary, once its rank was compared with those of its peers.
     Takeover {
         dir: &'a str,
+        peers: Peers<'a>,
+        explain: bool,
+    },
+    /// The database of a new primary, laid out in a folder that has none.
+    New {
+        dir: &'a str,
+        pages: u64,
+        log_blocks: Option<u64>,
         explain: bool,
     },
     /// Transactions of JSON lines into the log of a folder's primary.
@@ -72,7 +83,7 @@ pub enum Command<'a> {
         commit_timeout: u64,
         listen: Option<&'a str>,
         sync: u32,
-        window: u32,
+        window: Option<u32>,
         followers: Option<&'a str>,
         timeout: u64,
         explain: bool,
@@ -126,10 +137,30 @@ pub enum Command<'a> {
         path: &'a str,
         explain: bool,
     },
+    /// The log of a node that runs or of a folder's node, up to the end that it has acknowledged.
+    Backup {
+        from: Option<&'a str>,
+        dir: Option<&'a str>,
+        resume: Option<&'a str>,
+        pages: Option<u32>,
+        timeout: u64,
+        explain: bool,
+    },
+    /// A node of a log file in an empty folder, up to an LSN or a transaction's commit record.
+    Restore {
+        path: &'a str,
+        dir: &'a str,
+        at: Option<u64>,
+        before_commit: Option<u32>,
+        log_blocks: Option<u64>,
+        seals: Option<&'a str>,
+        explain: bool,
+    },
     /// A folder's node, taken back to an LSN of its own log.
     Rewind {
         dir: &'a str,
         lsn: u64,
+        lose_commits: Option<u64>,
         explain: bool,
     },
     /// A longer log device for a folder's node.

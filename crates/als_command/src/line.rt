@@ -1,3 +1,4 @@
+use crate::backup_lines::{BACKUP, RESTORE};
 use crate::texts;
 use crate::word::Word;
 use clap::{Arg, ArgGroup, Command};
@@ -6,16 +7,16 @@ use std::alloc::{AllocError, Global};
 /// A command line: the word that it begins with, and those that may follow.
 #[derive(Clone, Copy)]
 pub(crate) struct Line {
-    name: &'static str,
-    about: &'static str,
-    help: &'static str,
-    words: &'static [Word],
+    pub(crate) name: &'static str,
+    pub(crate) about: &'static str,
+    pub(crate) help: &'static str,
+    pub(crate) words: &'static [Word],
     /// One of these has to be given, and one alone, where there are any.
-    choice: &'static [&'static str],
+    pub(crate) choice: &'static [&'static str],
 }
 
 /// The command lines that the program knows, in the order of its help.
-pub(crate) const LINES: [Line; 18] = [
+pub(crate) const LINES: [Line; 21] = [
     Line {
         name: "make",
         about: texts::MAKE_ABOUT,
@@ -114,6 +115,10 @@ pub(crate) const LINES: [Line; 18] = [
                 name: "forget-unreached",
                 help: "Forget the takeovers of which DIR holds nothing",
             },
+            Word::Flag {
+                name: "uncompared",
+                help: "Follow also a node that does not answer which log it has",
+            },
             LISTEN,
             FOLLOWER,
             WINDOW,
@@ -125,7 +130,41 @@ pub(crate) const LINES: [Line; 18] = [
         name: "takeover",
         about: texts::TAKEOVER_ABOUT,
         help: texts::TAKEOVER_HELP,
-        words: &[DIR, EXPLAIN],
+        words: &[
+            Word::FreePlace {
+                name: "node",
+                value: "DIR",
+                help: "The folder of the database; --dir DIR is the same",
+            },
+            Word::Free {
+                name: "dir",
+                value: "DIR",
+                help: "The folder of the database",
+            },
+            Word::Several {
+                name: "peer",
+                value: "PEER",
+                help: "Another node: HOST:PORT of its --listen, or its folder; again for each",
+            },
+            EXPLAIN,
+        ],
+        choice: &["node", "dir"],
+    },
+    Line {
+        name: "new",
+        about: texts::NEW_ABOUT,
+        help: texts::NEW_HELP,
+        words: &[
+            NEW_FOLDER,
+            Word::Long {
+                name: "pages",
+                value: "N",
+                help: "How many pages the database has, 1 to 4096",
+                is_wanted: true,
+            },
+            NEW_LOG_BLOCKS,
+            EXPLAIN,
+        ],
         choice: &[],
     },
     Line {
@@ -134,8 +173,8 @@ pub(crate) const LINES: [Line; 18] = [
         help: texts::COMMIT_HELP,
         words: &[
             DIR,
-            NEW_PAGES,
-            NEW_LOG_BLOCKS,
+            OWN_PAGES,
+            OWN_LOG_BLOCKS,
             Word::Long {
                 name: "batch",
                 value: "L",
@@ -161,8 +200,8 @@ pub(crate) const LINES: [Line; 18] = [
                 value: "ADDR",
                 help: "Answer over HTTP there: a port of the loopback, or HOST:PORT",
             },
-            NEW_PAGES,
-            NEW_LOG_BLOCKS,
+            OWN_PAGES,
+            OWN_LOG_BLOCKS,
             Word::Free {
                 name: "token-file",
                 value: "FILE",
@@ -295,6 +334,8 @@ pub(crate) const LINES: [Line; 18] = [
         ],
         choice: &[],
     },
+    BACKUP,
+    RESTORE,
     Line {
         name: "rewind",
         about: texts::REWIND_ABOUT,
@@ -306,6 +347,12 @@ pub(crate) const LINES: [Line; 18] = [
                 value: "LSN",
                 help: "Where the log is to end: at the end of one of its records",
                 is_wanted: true,
+            },
+            Word::Long {
+                name: "lose-commits",
+                value: "N",
+                help: "How many commits behind LSN are lost: this very number [default: 0]",
+                is_wanted: false,
             },
             EXPLAIN,
         ],
@@ -357,24 +404,32 @@ const HEX: Word = Word::Flag {
 };
 
 /// Asks for remarks.
-const EXPLAIN: Word = Word::Flag {
+pub(crate) const EXPLAIN: Word = Word::Flag {
     name: "explain",
     help: "Say more on standard error of what is wrong (so it is on a terminal)",
 };
 
 /// Bounds how long a connection may be silent.
-const TIMEOUT: Word = Word::Long {
+pub(crate) const TIMEOUT: Word = Word::Long {
     name: "timeout",
     value: "SECONDS",
     help: "How long the other end may be silent, 0 without a limit [default: 60]",
     is_wanted: false,
 };
 
-/// How large a new database is.
-const NEW_PAGES: Word = Word::Long {
+/// How large a database has to be.
+const OWN_PAGES: Word = Word::Long {
     name: "pages",
     value: "N",
-    help: "Pages of a new database, 1 to 4096",
+    help: "Refuse a database of another number of pages",
+    is_wanted: false,
+};
+
+/// How long its log has to be.
+const OWN_LOG_BLOCKS: Word = Word::Long {
+    name: "log-blocks",
+    value: "B",
+    help: "Refuse a database whose log has fewer blocks",
     is_wanted: false,
 };
 
@@ -415,7 +470,7 @@ const PATH: Word = Word::Place {
 };
 
 /// Looks at a log up to an LSN.
-const AT: Word = Word::Long {
+pub(crate) const AT: Word = Word::Long {
     name: "at",
     value: "LSN",
     help: "Up to the last record that ends at or below this LSN",
@@ -426,6 +481,12 @@ const FOLDER: Word = Word::Place {
     name: "folder",
     value: "DIR",
     help: "The folder of a node; with --at a log file too",
+};
+
+const NEW_FOLDER: Word = Word::Place {
+    name: "folder",
+    value: "DIR",
+    help: "The folder of the new database, which is there",
 };
 
 const KEY_PAGE: Word = Word::PagePlace {

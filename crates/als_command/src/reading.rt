@@ -1,6 +1,8 @@
+use crate::backup_lines::{CUT_TWICE, backup, is_cut_twice, restore};
 use crate::command::Command;
 use crate::language::language;
 use crate::no_command::NoCommand;
+use crate::peers::Peers;
 use clap::error::ErrorKind;
 use clap::{ArgMatches, Command as Language, Error};
 use std::alloc::{AllocError, Global};
@@ -12,9 +14,6 @@ const CHECKPOINT_MB: u64 = 4;
 /// The threads that redo pages, where the command line does not say.
 const WORKERS: u64 = 4;
 
-/// The threads that answer reads, where the command line does not say.
-const READERS: u64 = 2;
-
 /// The seconds that the other end may be silent, where the command line does not say.
 const TIMEOUT: u64 = 60;
 
@@ -24,12 +23,12 @@ const CONNECTIONS: u64 = 64;
 /// The seconds that a transaction may wait to begin, where the command line does not say.
 const COMMIT_TIMEOUT: u64 = 10;
 
-/// The frames that are sent ahead of their answers, where the command line does not say.
-const WINDOW: u32 = 16;
-
 /// What is said of words of which one is of a file, and the other of a folder.
 const PARTED: &str =
     "the argument '--follow' cannot be used with '--dir <DIR>': a node's log does not grow while it is shipped; --keep can";
+
+/// What is said of more peers than a takeover asks.
+const CROWDED: &str = "the argument '--peer <PEER>' cannot be used more than eight times";
 
 /// What the words ask for, of which the first is the program's name.
 pub fn args<'a, S: AsStr>(alloc: Global, words: &'a [S]) -> Result<Command<'a>, NoCommand> {
@@ -52,6 +51,12 @@ fn matched<'a, S: AsStr>(als: &mut Language<'a>, words: &'a [S]) -> Result<Comma
     if is_parted(&matches) {
         return Err(als.error(ErrorKind::ArgumentConflict, PARTED)?);
     }
+    if is_crowded(&matches) {
+        return Err(als.error(ErrorKind::TooManyValues, CROWDED)?);
+    }
+    if is_cut_twice(&matches) {
+        return Err(als.error(ErrorKind::ArgumentConflict, CUT_TWICE)?);
+    }
     match found(&matches) {
         Ok(command) => Ok(command),
         Err(lack) => Err(als.error(lack, "an argument is wanted")?),
@@ -62,6 +67,16 @@ fn matched<'a, S: AsStr>(als: &mut Language<'a>, words: &'a [S]) -> Result<Comma
 fn is_parted(matches: &ArgMatches<'_>) -> bool {
     match matches.subcommand() {
         Some(("ship", ship)) => ship.get_flag("follow") && ship.get_str("dir").is_some(),
+        _ => false,
+    }
+}
+
+/// Whether a takeover names more peers than it asks.
+fn is_crowded(matches: &ArgMatches<'_>) -> bool {
+    match matches.subcommand() {
+        Some(("takeover", takeover)) => {
+            Peers::of(takeover.get_strs("peer").unwrap_or(&[])).is_none()
+        }
         _ => false,
     }
 }
@@ -99,6 +114,7 @@ fn asked<'a>(name: &str, matches: &ArgMatches<'a>) -> Option<Command<'a>> {
         "ship" => ship(matches),
         "standby" => standby(matches),
         "takeover" => takeover(matches),
+        "new" => new(matches),
         "commit" => commit(matches),
         "primary" => primary(matches),
         "resolve" => resolve(matches),
@@ -107,6 +123,8 @@ fn asked<'a>(name: &str, matches: &ArgMatches<'a>) -> Option<Command<'a>> {
         "cut" => cut(matches),
         "show" => show(matches),
         "begin" => begin(matches),
+        "backup" => backup(matches, TIMEOUT),
+        "restore" => restore(matches),
         "rewind" => rewind(matches),
         "grow" => grow(matches),
         "verify" => verify(matches),
@@ -129,7 +147,7 @@ fn ship<'a>(matches: &ArgMatches<'a>) -> Option<Command<'a>> {
             timeout,
             keep,
             follow,
-            window: matches.get_one("window").unwrap_or(WINDOW),
+            window: matches.get_one("window"),
             explain,
         });
     };
@@ -138,7 +156,7 @@ fn ship<'a>(matches: &ArgMatches<'a>) -> Option<Command<'a>> {
         listen,
         timeout,
         keep,
-        window: matches.get_one("window").unwrap_or(WINDOW),
+        window: matches.get_one("window"),
         explain,
     })
 }
@@ -154,18 +172,34 @@ fn standby<'a>(matches: &ArgMatches<'a>) -> Option<Command<'a>> {
         timeout: matches.get_one("timeout").unwrap_or(TIMEOUT),
         keep: matches.get_flag("keep"),
         serve: matches.get_str("serve"),
-        readers: matches.get_one("readers").unwrap_or(READERS),
+        readers: matches.get_one("readers"),
         forget_unreached: matches.get_flag("forget-unreached"),
+        uncompared: matches.get_flag("uncompared"),
         listen: matches.get_str("listen"),
-        window: matches.get_one("window").unwrap_or(WINDOW),
+        window: matches.get_one("window"),
         followers: matches.get_str("follower"),
         explain: matches.get_flag("explain"),
     })
 }
 
 fn takeover<'a>(matches: &ArgMatches<'a>) -> Option<Command<'a>> {
+    let dir = match matches.get_str("dir") {
+        Some(dir) => dir,
+        None => matches.get_str("node")?,
+    };
+    let named = matches.get_strs("peer").unwrap_or(&[]);
     Some(Command::Takeover {
-        dir: matches.get_str("dir")?,
+        dir,
+        peers: Peers::of(named)?,
+        explain: matches.get_flag("explain"),
+    })
+}
+
+fn new<'a>(matches: &ArgMatches<'a>) -> Option<Command<'a>> {
+    Some(Command::New {
+        dir: matches.get_str("folder")?,
+        pages: matches.get_one("pages")?,
+        log_blocks: matches.get_one("log-blocks"),
         explain: matches.get_flag("explain"),
     })
 }
@@ -192,7 +226,7 @@ fn primary<'a>(matches: &ArgMatches<'a>) -> Option<Command<'a>> {
         commit_timeout: matches.get_one("commit-timeout").unwrap_or(COMMIT_TIMEOUT),
         listen: matches.get_str("listen"),
         sync: matches.get_one("sync").unwrap_or(0),
-        window: matches.get_one("window").unwrap_or(WINDOW),
+        window: matches.get_one("window"),
         followers: matches.get_str("follower"),
         timeout: matches.get_one("timeout").unwrap_or(TIMEOUT),
         explain: matches.get_flag("explain"),
@@ -262,6 +296,7 @@ fn rewind<'a>(matches: &ArgMatches<'a>) -> Option<Command<'a>> {
     Some(Command::Rewind {
         dir: matches.get_str("dir")?,
         lsn: matches.get_one("to")?,
+        lose_commits: matches.get_one("lose-commits"),
         explain: matches.get_flag("explain"),
     })
 }

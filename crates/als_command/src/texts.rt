@@ -107,7 +107,7 @@ Example:
 Exit statuses: 0 done, 2 a fault of the command line, 3 `als: refused N Name`:
   1   FILE has no header, or the follower has another database
   32  there was no memory for FILE
-  37  with --keep, or --follow of FILE: W is not 1 to 64; no file was touched
+  37  W is not 1 to 64, or given without --keep, or --follow of FILE; no file was touched
   40  the follower holds more than there is
   41  what came is no frame of a follower
   42  the follower's log goes past the seal with which the history goes on
@@ -122,8 +122,8 @@ pub const STANDBY_ABOUT: &str = "Follows a primary's log as the standby of a fol
 pub const STANDBY_HELP: &str =
     "Needs DIR, a folder that is there, for itself alone. Opens the database in it: log.blk,
 control.blk and pages.blk. Where there is no control.blk, it lays out an empty database of
-N pages with a log of B blocks of 512 bytes, once the primary has answered: with --keep its files
-are written before, as log.new, control.new and pages.new, and get their names then.
+N pages with a log of B blocks of 512 bytes, once the primary has answered: nothing is written
+before. A primary's DIR is opened once the node that took over from it has answered.
 Redoes what was not redone, connects to ADDR, where `als ship` serves the primary's log,
 and follows it: each piece is stored, synced, acknowledged and then redone, up to the end of
 the log. After M megabytes of log (0: never), and however the session ends, the pages and a
@@ -136,15 +136,18 @@ With --keep it does so itself: after the end of the log, 43 or 44 it connects ag
 pause of at most 5 s, and after any other refusal, of which standard error tells, after a pause
 of 5 s to 60 s; once it follows, only 21, 29, 30, 31, 33, 34, 42, 48 and 50 end it. At its start it
 waits for a DIR that another program has, for up to a minute. With --explain, or on a terminal,
-standard error says once a minute at most that nothing comes.
-With --serve it answers over HTTP: GET /keys/P/S, /status, /metrics and /health. Nothing is
-encrypted, and nobody is asked who he is.
+standard error says once a minute at most that nothing comes; always, where DIR is not opened yet.
+One session has an end where its log has: of `als ship` without --follow. At a live primary, or
+at a standby with --listen, it goes on until one of the two goes away.
+With --serve it answers over HTTP: GET /keys/P/S, /status, /metrics and /health; /standby, for load
+balancers, is as /health, and /primary is 503. Nothing is encrypted, and nobody is asked who he is.
 With --keep, --serve or --listen one thread redoes at least: --workers 0 is 1.
 Before each session it asks ADDR, over a connection of its own, whether its log is the one that DIR
-holds. A node that hangs up on that three times, as `als ship` without --keep does, is followed all
-the same; standard error says so with --keep, --serve, --listen or --explain. Nothing is asked
-where DIR holds no record, nor, without --keep, where DIR was a primary's, nor by --workers 0
-alone: compare `als verify` of both first.
+holds. A node that hangs up on that three times is refused with 43. With --uncompared it is followed
+all the same, and standard error says so: compare `als verify` of both first. Nothing is asked where
+DIR holds no record.
+In front of each session it says the id of DIR, its file `id`, which is made at the first start. A
+node hangs up on a second session of one id: of a DIR that is a copy, remove that file.
 With --listen it serves what it has acknowledged to up to 8 standbys of its own, which follow it as
 they would follow a primary; with --follower only those at these addresses.
 With --forget-unreached it first forgets the takeovers that were sealed at the end of the log in
@@ -158,22 +161,24 @@ Example:
 Exit statuses: 0 done, 2 a fault of the command line, 3 `als: refused N Name`:
   2 to 16 a record of the primary may not follow: it is not held
   21  the database was taken over, and follows no more
-  29  the log has no room for more: B is too small. als grow makes it longer; with the largest B
-      als begin makes a new log
+  29  the log has no room for what comes next, which DIR lacks: als grow makes it longer; with the
+      largest B als begin makes a new log
   30  DIR or a file of it failed, or another program has DIR; or control.blk is missing,
       but log.blk or pages.blk has data: nothing was touched
   32  there was no memory for what DIR holds: it may be run again
   34  DIR has a database of another number of pages, or a damaged one (1, 33 too)
-  37  N is not 1 to 4,096, B not 1 to 4,194,304, a number of workers not 0 to 8, with --keep,
-      --serve or --listen a window not 1 to 64, with --serve a number of readers not 1 to 8, or
-      with --listen ADDRS no addresses; no file was touched
+  37  N is not 1 to 4,096, B not 1 to 4,194,304, W of --workers not 0 to 8, R not 1 to 8 or without
+      --serve, W of --window not 1 to 64 or without --listen, or ADDRS no addresses or without
+      --listen; no file was touched, and standard error names the option
   40, 41 what came is no frame that may come; 40 is also: the primary's log is shorter than that in
       DIR
-  43  the primary went away; it does so too where it has another number of pages than N
+  43  the primary went away, or does not say which log it has (see --uncompared); it goes away too
+      where it has another number of pages than N, and where a standby with the id of DIR follows it
   44  nobody serves at ADDR, the network or standard output failed, or the primary was
       silent for longer than SECONDS: run it again
   42  the log in DIR goes past the takeover of the node that serves: the two parted there.
-      `als rewind` takes DIR back to it
+      `als rewind` takes DIR back to it. Standard error has the commits in DIR behind it: how many,
+      and the first ten
   48  the takeovers of that node do not go on from those of DIR; see --forget-unreached
   50  that node has another log: what DIR holds is not a front of it, nor it of that. Nothing in
       DIR has changed: keep DIR, find which log is right (`als verify`, sha256=, of both), and
@@ -185,6 +190,12 @@ pub const TAKEOVER_ABOUT: &str = "Makes a primary of the standby of a folder";
 pub const TAKEOVER_HELP: &str =
     "Needs DIR, the folder of a standby that does not run. See first that the old primary
 writes no more: nothing here can do that. A primary's own folder begins its next epoch, of 32.
+Of several standbys the one of the greatest rank holds all that clients were answered. `als status`
+prints it, as rank=SEAL/END: the greater SEAL counts, and of one SEAL the greater END. Each PEER,
+up to eight, is asked for its rank first: one that serves its log (`als primary` or `als standby`
+with --listen, `als ship --dir --keep`) at its address, one that does not run in its folder. Where
+one is above, or does not answer within 10 s, DIR is not touched. Name all others: without PEER
+nothing is compared, and standard error says so.
 Redoes what was not redone, seals the log at its end, undoes each transaction that is neither
 committed nor in doubt, and ends the takeover. From then on the folder follows no primary.
 Where DIR adopted a takeover that its log never reached, that takeover is dropped first, and a line
@@ -195,31 +206,59 @@ prepared and neither committed nor rolled back. Its updates stay until `als reso
 It may be run again after a crash: it goes on, and ends with the same log.
 
 Example:
-  als takeover --dir standby
+  als takeover standby --peer 10.0.0.3:7070 --peer 10.0.0.4:7070
 
 Exit statuses: 0 done, 2 a fault of the command line, 3 `als: refused N Name`:
+  22  a PEER holds more, which standard error names: DIR was not touched
   30  DIR or a file of it failed, it has no database, or another program has DIR
   32  there was no memory for what DIR holds: it may be run again
   33, 34, 1 to 16 a file of it is damaged
   37  log.blk is longer than the largest log
   49  the history has no room for one more: where seals at the end of the log are of takeovers that
-      DIR never reached, `als standby --forget-unreached` drops them
-  44  standard output failed: DIR was taken over";
+      DIR never reached, `als standby --forget-unreached` drops them; --explain says what else
+  44  a PEER did not answer, which standard error names: DIR was not touched; else standard output
+      failed: DIR was taken over";
+
+pub const NEW_ABOUT: &str = "Lays out the database of a new primary";
+
+pub const NEW_HELP: &str =
+    "Needs DIR, a folder that is there and has no database, for itself alone. Lays out an empty
+database of N pages with a log of B blocks of 512 bytes, and a file `role`, which says that the
+folder is a primary's. `als primary` and `als commit` make no database: a folder that is empty
+because its disk is not there, or because it was emptied, is refused by them (30).
+Killed at any time it leaves the whole database, or a folder without one: run it again, it takes
+away what was left. Run it as the user that the primary runs as: it makes the files.
+Standbys need no such command: `als standby` lays its own database out.
+Writes standard output: `pages=N capacity=C`, with C, the bytes that the log takes at most.
+
+Example:
+  mkdir a
+  als new a --pages 64 --log-blocks 1048576
+  als primary --dir a --serve 127.0.0.1:7071
+
+Exit statuses: 0 done, 2 a fault of the command line, 3 `als: refused N Name`:
+  30  DIR or a file of it failed, its disk has no room, another program has DIR, or it has a
+      database; or control.blk is missing, but log.blk or pages.blk has data: then nothing was
+      touched
+  32  there was no memory for it: it may be run again
+  37  N is not 1 to 4,096, or B not 1 to 4,194,304; nothing was touched
+  44  standard output failed: the database is laid out";
 
 pub const COMMIT_ABOUT: &str = "Writes transactions into the log of a primary";
 
 pub const COMMIT_HELP: &str =
-    "Needs DIR, a folder that is there, for itself alone: an empty one (then give --pages: a new
-database of N pages with a log of B blocks of 512 bytes is laid out), one that `als primary` or
-`als commit` wrote before, or one that `als takeover` made a primary. The file `role` in it says
-that it is a primary's.
+    "Needs DIR, the folder of a primary, for itself alone: one that `als new` laid out, or that
+`als takeover` made a primary. The file `role` in it says that it is a primary's. It makes no
+database. With --pages it is refused where the database has another number of pages (34), with
+--log-blocks where its log has fewer blocks (37).
 Reads standard input: a transaction a line, in JSON:
   {\"if\":[{\"key\":[P,S],\"is\":\"ab\"},{\"key\":[P,S],\"unchanged_since\":L}],
    \"set\":[{\"key\":[P,S],\"to\":\"cd\"},{\"key\":[P,S],\"to\":null}]}
 on one line. A key is page P, slot S (0 to 14); a value is up to 31 bytes in hexadecimal, null is
 none. All comparisons of `if` hold and all of `set` is written, or nothing is; `if` may be left
-out. `unchanged_since` asks that no commit above LSN L wrote the key: after a start, and after a
-decision to commit, each key counts as written by the last commit. `if` and `set` have up to 600 each.
+out. `unchanged_since` asks that no commit above LSN L wrote the key, and that L is below the log's
+end: after a start, and after a decision to commit, each key counts as written by the last commit.
+`if` and `set` have up to 600 each.
 With \"prepare\":true beside, the transaction is prepared: it holds its keys, and survives crashes and
 takeovers, until a line {\"decide\":{\"trans\":T,\"commit\":true}} commits it, or one with false rolls it back.
 Writes standard output: for each line, in order, once it is durable,
@@ -228,7 +267,9 @@ Writes standard output: for each line, in order, once it is durable,
   committed trans=T lsn=L, rolled back trans=T lsn=L, not in doubt trans=T  of a decision
   not as asked [P,S]=VALUE ..  the first eight comparisons that fail, and what each key has
                           (`-` none, `.` the empty value)
-  refused N Name          nothing was written; the next line may be
+  refused N Name          nothing was written; the next line may be: 13 another transaction in
+                          doubt holds a key, 15 or 45 there are too many transactions, 29 the log
+                          has no room (`als grow`), 32 there was no memory
 A line that is no transaction ends it: `line N: ` and what is wrong go to standard error; the
 lines in front of it stay written. With --skip-bad it goes on.
 One force of the log makes a line durable, or L lines with --batch.
@@ -236,26 +277,27 @@ At its end the pages and a checkpoint are put on the files. `als ship --dir DIR`
 
 Example:
   mkdir a
-  echo '{\"set\":[{\"key\":[0,0],\"to\":\"aa\"}]}' | als commit --dir a --pages 4
+  als new a --pages 4
+  echo '{\"set\":[{\"key\":[0,0],\"to\":\"aa\"}]}' | als commit --dir a
 
-Exit statuses: 0 done, 2 a fault of the command line or a line that is no transaction, 3
-`als: refused N Name`:
+Exit statuses: 0 done, also where lines were refused (29 too): their lines say so; 2 a fault of the
+command line or a line that is no transaction, 3 `als: refused N Name`:
   21  a takeover of DIR is not at its end: `als takeover` goes on with it
-  30  DIR or a file of it failed, or another program has DIR; or control.blk is missing,
-      but log.blk or pages.blk has data: nothing was touched
+  30  DIR or a file of it failed, or another program has DIR; it has no database: `als new` lays
+      one out; or control.blk is missing, but log.blk or pages.blk has data. Nothing was touched
   32  there was no memory for what DIR holds: it may be run again
   33, 34, 1 to 16 a file of it is damaged; 34 also: the database has another number of pages than N
-  37  N is missing for a new database or not 1 to 4,096, B not 1 to 4,194,304, or L not 1 to
-      1,000; no file was touched
+  37  N is not 1 to 4,096, B not 1 to 4,194,304, or L not 1 to 1,000; or the log has fewer blocks
+      than B. Nothing was touched
   44  standard input or output failed
   46  DIR is the folder of a standby: `als takeover` first, where its primary is gone";
 
 pub const PRIMARY_ABOUT: &str = "Serves a primary: commits and reads over HTTP";
 
 pub const PRIMARY_HELP: &str =
-    "Needs DIR, a folder that is there, for itself alone: an empty one (then give --pages: a new
-database of N pages with a log of B blocks of 512 bytes is laid out), one that `als primary` or
-`als commit` wrote before, or one that `als takeover` made a primary.
+    "Needs DIR, the folder of a primary, for itself alone: one that `als new` laid out, or that
+`als takeover` made a primary. It makes no database. With --pages it is refused where the database
+has another number of pages (34), with --log-blocks where its log has fewer blocks (37).
 Redoes what was not redone, undoes what a crash left in mid-transaction, and answers over HTTP:
   POST /commit            a transaction, or an array of up to 64, each on its own:
     {\"if\":[{\"key\":[P,S],\"is\":\"ab\"},{\"key\":[P,S],\"unchanged_since\":L}],
@@ -263,47 +305,55 @@ Redoes what was not redone, undoes what a crash left in mid-transaction, and ans
     A key is page P, slot S (0 to 14); a value is up to 31 bytes in hexadecimal, null is none.
     All comparisons hold and all is set, or nothing is; `if` may be left out. Each has up to 600.
     `unchanged_since` is as of `als commit`.
-    200 {\"trans\":T,\"lsn\":L}: it is durable. 409: a comparison does not hold, or another
-    transaction holds a key. 400, 413: no transaction. 408, 503: nothing was written, ask again;
-    408: the request was not whole after 5 s. 504: it may be written or not. 507: the log has no
-    room. A 409 shows the first eight comparisons that do not hold.
+    200 {\"trans\":T,\"lsn\":L}: it is durable. 409 {\"not_as_asked\":[..]}: the first eight
+    comparisons that do not hold; {\"held_by\":T}: transaction T, which is in doubt, holds a key.
+    400, 413: no transaction. 408, 503: nothing was written, ask again; 408: the request was not
+    whole after 5 s. 504: it may be written or not. 507: the log has no room.
+    An array is answered 200 and an array: for each transaction, in order, the same object with
+    its own \"status\":200, 409, .. in front. One may be refused, and the next one be committed.
   POST /prepare           the same, but it is in doubt, and holds its keys, until it is decided
   POST /decide            {\"trans\":T,\"commit\":true} commits T, false rolls it back; 404: not in doubt
   GET /in-doubt           [{\"trans\":T,\"lsn\":L}]: the transactions in doubt
-  GET /keys/P/S, /status, /metrics and /health, as `als standby --serve` does.
+  GET /keys/P/S, /status, /metrics and /health, as `als standby --serve` does; /primary, for load
+                          balancers: 200 while commits are taken, and confirmed, else 503;
+                          /standby: 503
 It writes what waits as a group, forces the log once, and then answers all of the group. It ends
 only where a file, or memory again and again, fails; a kill at any time loses nothing that was
 answered 200: run it again.
-Standard error says `primary of DIR serves at ADDR: epoch E, LSN L` once it serves, and once an
-hour where the log has used nine tenths of its device.
+Standard error says `primary of DIR serves at ADDR: epoch E, LSN L` once it serves, beside that
+where nothing was ever committed (then /status has \"new\":true), and once an hour where the log has
+used nine tenths of its device.
 Without --token-file ADDR has to be of the loopback. FILE has mode 0600 and at least 16 bytes;
 a request to commit brings them, without a last line end, as `Authorization: Bearer TOKEN` (401
 without, 403 with others). Nothing is encrypted. A transaction that is not begun after SECONDS is
 not written (503).
 With --listen it serves its log to up to 8 standbys at once, each as far as the log is durable
 here: `als standby --from HOST:PORT`. With --sync K a commit is answered, and readers see it, once
-K standbys at different addresses have acknowledged it. After a start nothing is read (503) before K
+K standbys of different folders have acknowledged it. After a start nothing is read (503) before K
 have acknowledged what the log held then. Where fewer are there it waits, and
 never answers with less: a transaction that is not begun after SECONDS is 503, one that was is
-504 with its LSN. /health is 503 then, and standard error says so once a minute. With --follower
-only standbys at these addresses may connect, and only they count; without it whoever connects
-does. `als ship --dir DIR` serves the log while it does not run.
+504 with its LSN. /health and /primary are 503 then, and before K have been seen after a start;
+standard error says so once a minute. With --follower only standbys at these addresses may
+connect, and only they count; without it whoever connects does. `als ship --dir DIR` serves the
+log while it does not run.
 
 Example:
   mkdir a
-  als primary --dir a --pages 64 --serve 127.0.0.1:7071 &
+  als new a --pages 64
+  als primary --dir a --serve 127.0.0.1:7071 &
   curl -s -X POST localhost:7071/commit -d '{\"set\":[{\"key\":[1,3],\"to\":\"ab\"}]}'
 
 Exit statuses: 2 a fault of the command line, of FILE or of ADDR without it, 3
 `als: refused N Name`:
   21  a takeover of DIR is not at its end: `als takeover` goes on with it
-  30  DIR or a file of it failed, or another program has DIR; or control.blk is missing,
-      but log.blk or pages.blk has data: nothing was touched
+  30  DIR or a file of it failed, or another program has DIR; it has no database: `als new` lays
+      one out; or control.blk is missing, but log.blk or pages.blk has data. Nothing was touched
   32  there was no memory for what DIR holds: it may be run again
   33, 34, 1 to 16 a file of it is damaged; 34 also: the database has another number of pages than N
-  37  N is missing for a new database or not 1 to 4,096, B not 1 to 4,194,304, C not 1 to 64, the
-      SECONDS of --commit-timeout not 1 to 3,600 or those of --timeout over 3,600, K over 8 or
-      without --listen, W not 1 to 64, or ADDRS no addresses; no file was touched
+  37  N is not 1 to 4,096, B not 1 to 4,194,304, C not 1 to 64, the SECONDS of --commit-timeout not
+      1 to 3,600 or those of --timeout over 3,600, K over 8, W not 1 to 64, ADDRS no addresses, or K,
+      W or ADDRS given without --listen; or the log has fewer blocks than B. Nothing was touched;
+      standard error names the option
   44  ADDR or HOST:PORT can't be listened at
   46  DIR is the folder of a standby: `als takeover` first, where its primary is gone";
 
@@ -401,7 +451,9 @@ Writes standard output: a line
 with F Following (a primary's too, which has a line `role`), Sealed or Primary (taken over, and not
 written since); E, where the held log ends; A, up to where no crash can lose it; Q, where the log
 ended at the last checkpoint, 0 without one; B, the bytes of log that a restart redoes; C, the bytes
-that the log takes at most; and L, those that are left, with the room that is kept for a takeover.
+that the log takes at most; and L, those that are left, with the room that is kept for a takeover;
+and at the end of the line rank=SEAL/A: the last takeover's seal at or below A, 0 without one. Of
+several nodes of a database only the one of the greatest rank is to be taken over.
 After takeovers a line `epoch N seals S ..`; of a primary's folder a line `role primary epoch=N`.
 Then a line for each unended transaction, in rising TransID:
   trans T STATE last=L undo=U      (STATE active, prepared, committed or rollback)
@@ -431,14 +483,15 @@ pub const CUT_HELP: &str =
 that does not run, of which the log is read as far as it is acknowledged.
 Writes the log text to standard output: its header and each whole record that ends at or below
 LSN, or that stands in front of the commit record of T. So a damaged database is taken back to a
-moment: ship the text to an empty folder, and take over. Nothing is damaged by a wrong LSN: the
-text is another file.
+moment: `als restore` the text into an empty folder, and take over. Nothing is damaged by a wrong
+LSN: the text is another file.
 `als dump PATH --commits` prints for each commit L, where its record begins, its transaction and
 its keys: the text has the commit from --at L+28 on.
 
 Example:
   als cut a --before-commit 7 > earlier.log
-  als ship --log earlier.log --listen 127.0.0.1:7070
+  mkdir b
+  als restore earlier.log --dir b
 
 Exit statuses: 0 done, 2 a fault of the command line, 3 `als: refused N Name`; then the output is
 of no use:
@@ -474,9 +527,13 @@ Reads PATH and changes nothing: a log file as `als ship` serves it, or the folde
 that does not run, of which the log is read as far as it is acknowledged.
 Writes the new log text to standard output: its header, and for each page with a value one
 transaction, which sets all values of that page. Readers see of it what they see of PATH. LSNs and
-transactions count anew, so LSNs that clients keep mean nothing there.
-What has not committed is left out. A transaction in doubt is refused: decide it first, in the
-primary. Take the new folder over only where `end=` of its standby is the length of new.log.
+commits count anew, so LSNs that clients keep mean nothing there. TransIDs go on: where the greatest
+of PATH is above all of these, an empty transaction of that number is the last. So a decision that
+comes late decides no other transaction. Behind the last TransID, 4294967295, they begin anew.
+A transaction in doubt is in doubt there too, under its number and with what it wrote: decide it in
+the new primary. Behind the last TransID decide it first, since they go on above its number.
+What has neither committed nor prepared is left out. Take the new folder over only where `end=` of
+its standby is the length of new.log.
 
 Example:
   als begin --from a > new.log
@@ -488,7 +545,8 @@ Example:
 
 Exit statuses: 0 done, 2 a fault of the command line, 3 `als: refused N Name`; then the output is
 of no use:
-  13  this transaction is in doubt; nothing was written
+  13  this transaction is in doubt and can't be carried on: its number is not above the page
+      count, or 256 are in doubt. Nothing was written; decide it first
   30  PATH is a folder that failed, has no database, or is in use
   34, 1 to 16 a file of it is damaged: `als verify` tells where
   43  the file ends within a record
@@ -503,7 +561,9 @@ right one. Behind `als rewind` it follows that node: its pages are laid out anew
 and nothing comes over the network.
 Needs DIR, the folder of a node that does not run, for itself alone. LSN is the seal that 42 names,
 or any lower end of a record: for 50 the last one up to which both logs are the same.
-First copies what the log has behind LSN into a file beside DIR, DIR.past-LSN-to-END.log, and syncs
+Says on standard error how many commits the log has behind LSN, and which the first ten are. Where
+there are any, it goes on only with --lose-commits N, N being that number.
+Then copies what the log has behind LSN into a file beside DIR, DIR.past-LSN-to-END.log, and syncs
 it: where LSN is the seal, the commits in it were never on the other node. `als cut DIR --at LSN`,
 and then this file, are the log as it was. Then lays the pages out anew, takes the file `role` away,
 and writes a new control block: the node follows, its log ends at LSN, and takeovers sealed at LSN
@@ -522,7 +582,7 @@ Exit statuses: 0 done, 2 a fault of the command line, 3 `als: refused N Name`:
   30  DIR or a file of it failed, it has no database, or it is in use
   34, 1 to 16 log.blk or control.blk is damaged below LSN; nothing was written
   37  LSN is within the header or past the end, or no record ends there: standard error has the
-      nearest end below it. Nothing was written
+      nearest end below it; or N is not how many commits are behind LSN. Nothing was written
   44  the file beside DIR can't be written, its disk has no room, or it is there with something
       else: the node is as it was; or standard output failed: the node was taken back. Standard
       error says which";

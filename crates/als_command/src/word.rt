@@ -15,6 +15,12 @@ pub(crate) enum Word {
         value: &'static str,
         help: &'static str,
     },
+    /// `VALUE`, which may be given.
+    FreePlace {
+        name: &'static str,
+        value: &'static str,
+        help: &'static str,
+    },
     /// `VALUE`, a page's number, which has to be given.
     PagePlace {
         name: &'static str,
@@ -35,6 +41,12 @@ pub(crate) enum Word {
     },
     /// `--name VALUE`, a text that may be given.
     Free {
+        name: &'static str,
+        value: &'static str,
+        help: &'static str,
+    },
+    /// `--name VALUE`, a text that may be given, and more than once.
+    Several {
         name: &'static str,
         value: &'static str,
         help: &'static str,
@@ -61,6 +73,9 @@ impl Word {
         match self {
             Word::Flag { name, help } => flag(alloc, name, help),
             Word::Place { name, value, help } => place(alloc, name, value, help),
+            Word::FreePlace { name, value, help } => {
+                place(alloc, name, value, help).required(false)
+            }
             Word::PagePlace { name, value, help } => {
                 place(alloc, name, value, help).value_parser(value_parser!(u32))
             }
@@ -69,6 +84,9 @@ impl Word {
             }
             Word::Text { name, value, help } => named(alloc, name, value, help).required(true),
             Word::Free { name, value, help } => named(alloc, name, value, help),
+            Word::Several { name, value, help } => {
+                named(alloc, name, value, help).action(ArgAction::Append)
+            }
             Word::Short {
                 name,
                 value,

@@ -2,16 +2,19 @@ ghost use Rattle.std.specs.Prelude.{◌≡◌, List, []};
 ghost use Rattle.als_lead.specs.declared.asked.Asked.{Asked as AnyAsked};
 ghost use Rattle.als_lead.specs.declared.told.Told.{Told as AnyTold};
 ghost use Rattle.als_lead.specs.Leading.{Leads};
+ghost use Rattle.als_commit.specs.Printing.{OwesTo};
 
 use crate::bad_line::BadLines;
 use crate::committing::Committing;
 use crate::lines::{Lines, LinesEnd};
+use crate::truth::Truth;
 use als_drive::Progress;
 use als_engine::{Fault as EngineFault, Writes};
 use als_lead::{Account, Database, Limits, Primary, PrimaryUpkeep, lead, open};
 use als_operate::{Fault, named, settle};
 use std::fs::File;
 use std::io::{BufReader, Read, Write};
+use std::marker::{Brand, PhantomData};
 use std::rt::Files;
 use std::sync::Wait;
 
@@ -34,7 +37,7 @@ pub enum Ending {
 /// prints a line for each once it is durable. `lines` receives the progress of the redo before that,
 /// and each line that is neither.
 ///
-/// BadConfig: the batch is not 1 to 1,000, or a size of a new database is out of its range or missing.
+/// BadConfig: the batch is not 1 to 1,000, or a size that is given is out of its range.
 /// Stream: the input or the output failed. Else as `als_lead::open` says, or the first refusal of an
 /// event. However it ends, what the engine has is put on the devices.
 pub fn commit<
@@ -72,7 +75,8 @@ pub fn commit<
     }
 }
 
-/// Writes all lines, group by group.
+/// Writes all lines, group by group. What is true of an engine that goes on from this one, and has its cause,
+/// may be printed.
 fn write_all<R: AllocGlobal + Wait, E: Writes, I: Read + Drop, B: BadLines, O: Write>(
     rt: &R,
     committing: Committing<'_>,
@@ -87,9 +91,26 @@ fn write_all<R: AllocGlobal + Wait, E: Writes, I: Read + Drop, B: BadLines, O: W
         (E.machine engine.old) (E.machine engine.new) [] asked [] told }
     ensures book { E.book engine.new ≡ E.book engine.old }
 {
+    write_as::<Brand, R, E, I, B, O>(rt, committing, engine, input, bad, output)
+}
+
+/// The same, where all of that may be printed. Nothing else is.
+fn write_as<T: Truth, R: AllocGlobal + Wait, E: Writes, I: Read + Drop, B: BadLines, O: Write>(
+    rt: &R,
+    committing: Committing<'_>,
+    engine: &mut E,
+    input: I,
+    bad: &mut B,
+    output: &mut O,
+) -> Result<Ending, Fault>
+    requires owed { OwesTo E.alone E.machine engine.old T.may_print }
+    ensures leads { (asked : List AnyAsked) × (told : List AnyTold) × Leads E.alone
+        (E.machine engine.old) (E.machine engine.new) [] asked [] told }
+    ensures book { E.book engine.new ≡ E.book engine.old }
+{
     let alloc = rt.alloc();
     let mut upkeep = PrimaryUpkeep::new(rt, CHECKPOINT_BYTES, engine.status().end);
-    let mut lines = Lines {
+    let mut lines: Lines<'_, I, B, O, T> = Lines {
         alloc,
         input: BufReader::new(alloc, input)?,
         line: Vec::new(alloc),
@@ -100,6 +121,7 @@ fn write_all<R: AllocGlobal + Wait, E: Writes, I: Read + Drop, B: BadLines, O: W
         bad,
         output,
         account: Account::Nothing,
+        of: PhantomData,
     };
     let limits = Limits {
         transactions: committing.batch as usize,

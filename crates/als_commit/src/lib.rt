@@ -1,8 +1,8 @@
 //! The writer of a primary from lines: it opens the folder of a primary and writes what each line asks for,
 //! a transaction or a decision. It is a leader (als_lead) whose clients are the lines.
 //!
-//! 1. Who may write: a new folder, one whose `role` says that it is a primary of its own epoch, or
-//!    one that was taken over. The role is made before anything else is.
+//! 1. Who may write: a folder whose `role` says that it is a primary of its own epoch, or one that was
+//!    taken over. A folder without a database is refused.
 //! 2. What a crash left in mid-transaction is tidied first, in one force.
 //! 3. Each line is planned, and refused or fed as a whole. A group of lines is forced once, and only then
 //!    its lines are answered, in order, refusals too: no printed line tells of what a crash may take back.
@@ -18,6 +18,8 @@ mod committing;
 mod input_lines;
 // A line that cannot be read.
 mod bad_line;
+// When it may be printed.
+mod truth;
 // The line of an answer.
 mod printing;
 // The lines as clients.

@@ -4,12 +4,14 @@ ghost use Rattle.als_lead.specs.Account.{taken_of, told_of};
 use crate::bad_line::BadLines;
 use crate::input_lines::{InputLine, next_line};
 use crate::printing::print;
+use crate::truth::Truth;
 use als_lead::{Account, Answer, Asked, Clients, Waited};
 use als_operate::Fault;
 use als_request::{Mistake, work};
 use als_writer::{Flaw, Work, find_flaw};
 use std::alloc::Global;
 use std::io::{BufReader, Read, Write};
+use std::marker::PhantomData;
 
 /// Why no more lines are read.
 #[derive(Clone, Copy, PartialEq, Eq)]
@@ -32,7 +34,7 @@ enum Line {
 
 /// The lines of an input as clients of the leader. Each is answered by a line of the output.
 #[derive(Drop)]
-pub(crate) struct Lines<'a, I: Read, B: BadLines, O: Write> {
+pub(crate) struct Lines<'a, I: Read, B: BadLines, O: Write, T: Truth> {
     pub alloc: Global,
     pub input: BufReader<I>,
     /// The line that was read last.
@@ -49,12 +51,16 @@ pub(crate) struct Lines<'a, I: Read, B: BadLines, O: Write> {
     pub output: &'a mut O,
     /// What was taken and printed, for clauses only.
     pub account: Account,
+    /// When an answer may be printed.
+    pub of: PhantomData<T>,
 }
 
-impl<I: Read + Drop, B: BadLines, O: Write> Clients for Lines<'_, I, B, O> {
+impl<I: Read + Drop, B: BadLines, O: Write, T: Truth> Clients for Lines<'_, I, B, O, T> {
     ghost taken = { λ lines. taken_of lines.account };
 
     ghost told = { λ lines. told_of lines.account };
+
+    ghost may_tell = { T.may_print };
 
     fn wait(&mut self) -> Result<Waited, Fault> {
         match self.end {
@@ -78,7 +84,7 @@ impl<I: Read + Drop, B: BadLines, O: Write> Clients for Lines<'_, I, B, O> {
     }
 
     fn tell(&mut self, asked: Asked, answer: Answer) -> Result<(), Fault> {
-        let printed = print(&asked.work, &answer, self.output);
+        let printed = print::<T, O>(&asked, &answer, self.output);
         self.account.tell(&asked, answer);
         printed?;
         Ok(())
@@ -90,7 +96,7 @@ impl<I: Read + Drop, B: BadLines, O: Write> Clients for Lines<'_, I, B, O> {
     }
 }
 
-impl<I: Read + Drop, B: BadLines, O: Write> Lines<'_, I, B, O> {
+impl<I: Read + Drop, B: BadLines, O: Write, T: Truth> Lines<'_, I, B, O, T> {
     /// What the next line asks for. None: no more lines are read.
     fn next_work(&mut self) -> Result<Option<Work>, Fault>
         ensures { self.new.account ≡ self.old.account }

@@ -1,13 +1,21 @@
+use crate::truth::Truth;
 use als_engine::{Decision, Fault};
 use als_fault::FaultKind;
-use als_lead::Answer;
+use als_lead::{Answer, Asked};
 use als_text::ShownImage;
 use als_writer::{Failing, NotDecided, Refusal, Work, Written};
 use std::io;
 use std::io::Write;
 
-/// Prints the line of an answer. What ends the writer is reported by the command.
-pub(crate) fn print<O: Write>(work: &Work, answer: &Answer, output: &mut O) -> io::Result<()> {
+/// Prints the line of an answer that may be printed. What ends the writer is reported by the command.
+pub(crate) fn print<T: Truth, O: Write>(
+    asked: &Asked,
+    answer: &Answer,
+    output: &mut O,
+) -> io::Result<()>
+    requires may { T.may_print asked.now answer.now }
+{
+    let work = &asked.work;
     match answer {
         Answer::Committed(written) => {
             let lsn = written.lsn;

@@ -139,3 +139,17 @@ unfolding IsVerdict
 text_answers text seals end q s v needs is of =
     subst (λ (o : Option Verdict). MatchOption o (IsOfDigest (sha256 (take q.end text)) q v) (λ w. v ≡ w)) (sym needs.undecided)
     (subst (λ (t : Summary). IsOfDigest t.digest q v) is of)
+
+-- ---- how a log begins
+
+pub begins_otherwise : (text seals held : List ℕ) (n end : ℕ) → n ≤ length held → IsVerdict text end seals (summary_of 0 (take n held)) Other
+    → take n text ≡ take n held → ⊥
+begins_otherwise text seals held n end inside is same =
+    let len : length (take n held) ≡ n = length-take-le n held inside in
+    let (within, differs) = other_differs text seals (take n held) 0 end is in
+    differs (ap (λ (k : ℕ). take k text) len ∙ same)
+
+pub begins_alike : (text seals held : List ℕ) (n end : ℕ) (step : Step) (v : Verdict) → Judges [] seals n (Ok step) → n ≤ length text → n ≤ end
+    → take n text ≡ take n held → IsVerdict text end seals (summary_of 0 (take n held)) v → v ≡ Same
+begins_alike text seals held n end step v judged inside within same is =
+    front_same text [] seals n end step v judged inside within (subst (λ (xs : List ℕ). IsVerdict text end seals (summary_of 0 xs) v) (sym same) is)

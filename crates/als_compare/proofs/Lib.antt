@@ -1,2 +1,4 @@
 pub mod Parts
 pub mod Answering
+pub mod RankOrder
+mod RankRows

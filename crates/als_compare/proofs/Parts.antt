@@ -7,7 +7,10 @@ use Rattle.als_wire.specs.declared.fault.Fault.{Fault}
 use Rattle.als_wire.specs.declared.fault.Fault.TheVariants.{BadHeader, Memory, BadFrame, Cut, Stream}
 use Rattle.als_wire.specs.Faults.{IsOfStream}
 use Rattle.als_compare.specs.declared.summary.Summary.{Summary}
+use Rattle.als_compare.specs.declared.rank.Rank.{Rank}
 use Rattle.als_compare.specs.Frames.{question_bytes, rest_bytes}
+use Rattle.als_compare.specs.Ids.{id_bytes}
+use Rattle.als_compare.specs.Ranks.{rank_bytes, rank_numbers}
 use Rattle.als_compare.specs.Reading.{FailsToRead, IsNoTag, IsNoVerdict, IsNoAnswer}
 
 pub rest_read : (a b c d : Option (List ℕ)) (epoch end : ℕ) (digest : List ℕ) → Consumes a b (to_be_bytes w32 epoch) → Consumes b c (to_be_bytes w64 end)
@@ -18,6 +21,17 @@ rest_read a b c d epoch end digest first second third =
 
 pub question_read : (a b c : Option (List ℕ)) (question : Summary) → Consumes a b (86 ∷ []) → Consumes b c (rest_bytes question) → Consumes a c (question_bytes question)
 question_read a b c question first second = Consumes-trans a b c (86 ∷ []) (rest_bytes question) first second
+
+pub numbers_read : (a b c : Option (List ℕ)) (seal end : ℕ) → Consumes a b (to_be_bytes w64 seal) → Consumes b c (to_be_bytes w64 end)
+    → Consumes a c (rank_numbers (record { seal = seal; end = end }))
+unfolding rank_numbers
+numbers_read a b c seal end first second = Consumes-trans a b c (to_be_bytes w64 seal) (to_be_bytes w64 end) first second
+
+pub rank_read : (a b c : Option (List ℕ)) (rank : Rank) → Consumes a b (82 ∷ []) → Consumes b c (rank_numbers rank) → Consumes a c (rank_bytes rank)
+rank_read a b c rank first second = Consumes-trans a b c (82 ∷ []) (rank_numbers rank) first second
+
+pub id_read : (a b c : Option (List ℕ)) (id : List ℕ) → Consumes a b (73 ∷ []) → Consumes b c id → Consumes a c (id_bytes id)
+id_read a b c id first second = Consumes-trans a b c (73 ∷ []) id first second
 
 -- the stream has ended or failed
 pub of_stream : (none : List ℕ → Type 0) (f : Fault) (old new : Option (List ℕ)) → IsOfStream f → FailsToRead none f old new

@@ -1,4 +1,6 @@
 pub mod Summaries
 pub mod Verdicts
+pub mod Ranks
+pub mod Ids
 pub mod Frames
 pub mod Reading

@@ -6,9 +6,13 @@ use Rattle.als_wire.specs.declared.fault.Fault.TheVariants.{BadHeader, Memory, B
 use Rattle.als_compare.specs.declared.verdict.Verdict.{Verdict}
 use Rattle.als_compare.specs.Frames.{byte_of}
 
+-- one byte that is another one than a frame begins with
+abbrev pub IsOtherTag : ℕ → List ℕ → Type 0
+IsOtherTag tag bytes = (byte : ℕ) × (byte ≢ tag) × (bytes ≡ byte ∷ [])
+
 -- one byte with which no question and no answer begins
 abbrev pub IsNoTag : List ℕ → Type 0
-IsNoTag bytes = (byte : ℕ) × (byte ≢ 86) × (bytes ≡ byte ∷ [])
+IsNoTag bytes = IsOtherTag 86 bytes
 
 -- one byte that is no verdict
 abbrev pub IsNoVerdict : List ℕ → Type 0

@@ -34,3 +34,11 @@ IsOfDigest digest question Parted = ⊥
 unfoldable pub IsVerdict : List ℕ → ℕ → List ℕ → Summary → Verdict → Type 0
 IsVerdict text end seals question verdict =
     MatchOption (judged_sooner seals end question) (IsOfDigest (sha256 (take question.end text)) question verdict) (λ sooner. verdict ≡ sooner)
+
+-- what is said by the answers about all that is held, and about its beginning: that the log begins otherwise comes first
+abbrev pub said_first : Verdict → Option Verdict → Verdict
+said_first whole None = whole
+said_first whole (Some Same) = whole
+said_first whole (Some Other) = Other
+said_first whole (Some Shorter) = whole
+said_first whole (Some Parted) = whole

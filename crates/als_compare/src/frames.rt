@@ -2,7 +2,7 @@ ghost use Rattle.std.specs.Prelude.{◌≡◌, ◌∷◌, [], IfOk, IfErr, OnOk}
 ghost use Rattle.std.specs.Io.KnownBytes.{Consumes, Appends};
 ghost use Rattle.als_wire.specs.Faults.{IsOfStream};
 ghost use Rattle.als_compare.specs.Frames.{question_bytes, rest_bytes, answer_bytes, byte_of};
-ghost use Rattle.als_compare.specs.Reading.{FailsToRead, IsNoTag, IsNoVerdict, IsNoAnswer};
+ghost use Rattle.als_compare.specs.Reading.{FailsToRead, IsOtherTag, IsNoTag, IsNoVerdict, IsNoAnswer};
 
 use crate::numbers::{read_byte, read_digest, read_long, read_word};
 use crate::summary::Summary;
@@ -48,7 +48,7 @@ pub fn write_answer<W: Write>(writer: &mut W, verdict: Verdict) -> Result<(), Fa
 }
 
 /// Writes all of the bytes, and hands them on.
-fn put<W: Write>(writer: &mut W, bytes: &[u8]) -> Result<(), Fault>
+pub(crate) fn put<W: Write>(writer: &mut W, bytes: &[u8]) -> Result<(), Fault>
     ensures all { OnOk result (Appends (W.contents writer.old) (W.contents writer.new) bytes.now) }
     ensures fails { IfErr result IsOfStream }
 {
@@ -58,14 +58,14 @@ fn put<W: Write>(writer: &mut W, bytes: &[u8]) -> Result<(), Fault>
 }
 
 /// Reads the byte with which a frame begins.
-fn read_tag<R: Read>(reader: &mut R) -> Result<(), Fault>
+pub(crate) fn read_tag<R: Read>(reader: &mut R, tag: u8) -> Result<(), Fault>
     ensures found { OnOk result (Consumes (R.remaining reader.old) (R.remaining reader.new)
-        (86 ∷ [])) }
-    ensures fails { IfErr result (λ f. FailsToRead IsNoTag f (R.remaining reader.old)
+        (tag ∷ [])) }
+    ensures fails { IfErr result (λ f. FailsToRead (IsOtherTag tag) f (R.remaining reader.old)
         (R.remaining reader.new)) }
 {
     let byte = read_byte(reader)?;
-    if byte == TAG {
+    if byte == tag {
         Ok(())
     } else {
         Err(Fault::BadFrame)
@@ -83,7 +83,7 @@ pub fn read_question<R: Read>(reader: &mut R) -> Result<Summary, Fault>
     ensures fails { IfErr result (λ f. FailsToRead IsNoTag f (R.remaining reader.old)
         (R.remaining reader.new)) }
 {
-    read_tag(reader)?;
+    read_tag(reader, TAG)?;
     let question = read_rest(reader)?;
     Ok(question)
 }
@@ -128,7 +128,7 @@ pub fn read_answer<R: Read>(reader: &mut R) -> Result<Verdict, Fault>
     ensures fails { IfErr result (λ f. FailsToRead IsNoAnswer f (R.remaining reader.old)
         (R.remaining reader.new)) }
 {
-    read_tag(reader)?;
+    read_tag(reader, TAG)?;
     let verdict = read_verdict(reader)?;
     Ok(verdict)
 }

@@ -1,6 +1,6 @@
 -- What a stream had before its first byte was read.
 use Rattle.std.proofs.Common.{◌≡◌, ◌⊎◌, ℕ, List, [], ◌∷◌, Option, Some, None, refl, ap, subst, sym, inl, inr}
-use Rattle.std.specs.Io.KnownBytes.{Consumes}
+use Rattle.std.specs.Io.KnownBytes.{Consumes, Appends}
 use Rattle.std.specs.Fmt.{option_append}
 use Rattle.std.proofs.KnownBytes.{Keeps-refl, Appends-nil, Consumes-trans}
 use Rattle.als_ship.specs.declared.fault.Fault.{Fault}
@@ -9,7 +9,8 @@ use Rattle.als_sending.specs.Reads.{Read}
 use Rattle.als_sending.specs.Meeting.{FailsToSend}
 use Rattle.als_sending.specs.Session.{IsUnbegun}
 use Rattle.als_compare.specs.Frames.{rest_bytes}
-use Rattle.als_comparing.specs.Answers.{Answers, AnswersRest}
+use Rattle.als_compare.specs.Ranks.{rank_of, rank_bytes}
+use Rattle.als_comparing.specs.Answers.{Answers, AnswersRest, AnswersOne}
 use Rattle.als_comparing.specs.Serving.{AreKnownAs, BeginsQuestion, IsAsked, IsServed, EndsWell, FailsToServe}
 
 -- what was read and what is left are what there was, where that is known
@@ -18,11 +19,17 @@ known_again None mid bytes c = inl refl
 known_again (Some xs) None bytes c = absurd c
 known_again (Some xs) (Some ys) bytes c = inr (ap Some c)
 
--- it began with V
+-- it began with V or R
+begins_asked : (old mid : Option (List ℕ)) (byte : ℕ) → Consumes old mid (byte ∷ []) → (byte ≡ 86) ⊎ (byte ≡ 82) → BeginsQuestion old
+begins_asked None mid byte c is = tt
+begins_asked (Some xs) None byte c is = absurd c
+begins_asked (Some xs) (Some ys) byte c is = (byte, ys, is, c)
+
 pub begins_question : (old mid : Option (List ℕ)) (byte : ℕ) → Consumes old mid (byte ∷ []) → byte ≡ 86 → BeginsQuestion old
-begins_question None mid byte c e = tt
-begins_question (Some xs) None byte c e = absurd c
-begins_question (Some xs) (Some ys) byte c e = (ys, subst (λ (b : ℕ). xs ≡ b ∷ ys) e c)
+begins_question old mid byte c e = begins_asked old mid byte c (inl e)
+
+pub begins_rank_question : (old mid : Option (List ℕ)) (byte : ℕ) → Consumes old mid (byte ∷ []) → byte ≡ 82 → BeginsQuestion old
+begins_rank_question old mid byte c e = begins_asked old mid byte c (inr e)
 
 -- the question is whole
 pub whole_question : (reads : List Read) (end : ℕ) (own : List ℕ) (asked mid behind old new : Option (List ℕ)) (byte : ℕ) → Consumes asked mid (byte ∷ []) → byte ≡ 86
@@ -37,12 +44,31 @@ whole_question reads end own asked mid behind old new byte first is rest =
       right = rest.right;
     }
 
+-- one of the two questions was answered
+pub one_answered : (reads : List Read) (end : ℕ) (own : List ℕ) (asked mid behind old new : Option (List ℕ)) (byte : ℕ) → Consumes asked mid (byte ∷ []) → byte ≡ 86
+    → AnswersRest reads end own mid behind old new → AnswersOne reads end own asked behind old new
+one_answered reads end own asked mid behind old new byte first is rest = inl (whole_question reads end own asked mid behind old new byte first is rest)
+
+pub one_told : (reads : List Read) (end : ℕ) (own : List ℕ) (asked mid old new : Option (List ℕ)) (byte : ℕ) → Consumes asked mid (byte ∷ []) → byte ≡ 82
+    → Appends old new (rank_bytes (rank_of own end)) → AnswersOne reads end own asked mid old new
+one_told reads end own asked mid old new byte first is told =
+    let r : Consumes asked mid (82 ∷ []) = subst (λ (b : ℕ). Consumes asked mid (b ∷ [])) is first in
+    inr (record { read = r; written = told })
+
 -- so it ended well, as a question
 pub ends_answered : (pages end : ℕ) (own : List ℕ) (reads reads_now : List Read) (asked mid behind : Option (List ℕ)) (heard : List ℕ) (begun old new : Option (List ℕ)) (byte : ℕ)
     → Consumes asked mid (byte ∷ []) → byte ≡ 86 → AnswersRest reads_now end own mid behind old new → EndsWell pages end own reads reads_now asked behind heard heard begun begun old new 0
 ends_answered pages end own reads reads_now asked mid behind heard begun old new byte first is rest =
     let asks : IsAsked asked heard heard begun begun = record { first = begins_question asked mid byte first is; none = refl; kept = Keeps-refl begun } in
-    inl (record { question = asks; answers = whole_question reads_now end own asked mid behind old new byte first is rest; none = refl })
+    inl (record { question = asks; answers = one_answered reads_now end own asked mid behind old new byte first is rest; none = refl })
+
+-- and so it did where the rank was asked for
+pub ends_told : (pages end : ℕ) (own : List ℕ) (reads reads_now : List Read) (asked mid : Option (List ℕ)) (heard : List ℕ) (begun old new : Option (List ℕ)) (byte : ℕ)
+    → Consumes asked mid (byte ∷ []) → byte ≡ 82 → Appends old new (rank_bytes (rank_of own end))
+    → EndsWell pages end own reads reads_now asked mid heard heard begun begun old new 0
+ends_told pages end own reads reads_now asked mid heard begun old new byte first is told =
+    let asks : IsAsked asked heard heard begun begun = record { first = begins_rank_question asked mid byte first is; none = refl; kept = Keeps-refl begun } in
+    inl (record { question = asks; answers = one_told reads_now end own asked mid old new byte first is told; none = refl })
 
 -- nothing was read or sent
 pub not_served : (window pages end : ℕ) (own : List ℕ) (reads : List Read) (asked : Option (List ℕ)) (heard : List ℕ) (begun old : Option (List ℕ))

@@ -6,19 +6,19 @@ use Rattle.als_sending.specs.Reads.{Read, AreOf}
 use Rattle.als_sending.specs.Sent.{SendsTrue}
 use Rattle.als_sending.specs.Meeting.{FailsToSend}
 use Rattle.als_sending.specs.Session.{Hears, KeepsWindow, Begins, Sends}
-use Rattle.als_comparing.specs.Answers.{Answers, IsOfAnswer}
+use Rattle.als_comparing.specs.Answers.{AnswersOne, IsOfAnswer}
 
 -- the bytes of a stream are these, where they are known
 abbrev pub AreKnownAs : Option (List ℕ) → Option (List ℕ) → Type 0
 AreKnownAs known bytes = (known ≡ None) ⊎ (known ≡ bytes)
 
--- the first byte is V, where it is known
+-- the first byte is V or R, where it is known
 abbrev pub BeginsQuestion : Option (List ℕ) → Type 0
-BeginsQuestion asked = IfSome asked (λ (bytes : List ℕ). (rest : List ℕ) × (bytes ≡ 86 ∷ rest))
+BeginsQuestion asked = IfSome asked (λ (bytes : List ℕ). (byte : ℕ) × (rest : List ℕ) × ((byte ≡ 86) ⊎ (byte ≡ 82)) × (bytes ≡ byte ∷ rest))
 
 -- the first byte is another one, where it is known
 abbrev pub BeginsOther : Option (List ℕ) → Type 0
-BeginsOther asked = IfSome asked (λ (bytes : List ℕ). (byte : ℕ) × (rest : List ℕ) × (byte ≢ 86) × (bytes ≡ byte ∷ rest))
+BeginsOther asked = IfSome asked (λ (bytes : List ℕ). (byte : ℕ) × (rest : List ℕ) × (byte ≢ 86) × (byte ≢ 82) × (bytes ≡ byte ∷ rest))
 
 -- A question began, and no session: nothing was acknowledged.
 pub record IsAsked (asked : Option (List ℕ)) (heard heard_now : List ℕ) (begun begun_now : Option (List ℕ)) : Type 0 where
@@ -43,7 +43,7 @@ IsServed window pages end own reads asked heard heard_now begun begun_now old ne
 -- A question was answered, and no session began: nothing was acknowledged, and no log byte was new to who asked.
 pub record IsAnswered (end : ℕ) (own : List ℕ) (reads_now : List Read) (asked behind : Option (List ℕ)) (heard heard_now : List ℕ) (begun begun_now old new : Option (List ℕ)) (n : ℕ) : Type 0 where
   pub question : IsAsked asked heard heard_now begun begun_now
-  pub answers : Answers reads_now end own asked behind old new
+  pub answers : AnswersOne reads_now end own asked behind old new
   pub none : n ≡ 0
 
 -- A session was served whole, and no question was asked: all from where the follower goes on to the end that the log told last was sent, an answer to each

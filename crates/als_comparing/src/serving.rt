@@ -7,19 +7,20 @@ ghost use Rattle.als_sending.specs.Reads.{Read as AnyRead, AreOf};
 ghost use Rattle.als_sending.specs.Sent.{SendsTrue};
 ghost use Rattle.als_sending.specs.Meeting.{FailsToSend};
 ghost use Rattle.als_sending.specs.Session.{Hears, KeepsWindow, Begins, Sends};
-ghost use Rattle.als_comparing.specs.Answers.{Answers};
+ghost use Rattle.als_comparing.specs.Answers.{AnswersOne};
 ghost use Rattle.als_comparing.specs.Serving.{IsAsked, IsServed, EndsWell, FailsToServe};
 
 use crate::answering::answer;
-use als_compare::{TAG, read_byte};
+use crate::ranking::tell_rank;
+use als_compare::{RANK_TAG, TAG, read_byte};
 use als_sending::{Growing, Marks, send_log};
 use als_ship::Fault;
 use std::alloc::Global;
 use std::io::{Read, Write};
 
-/// Serves one who came: answers whether the log is the one that a follower holds, where that is asked, or
-/// sends the log, as `als_sending::send_log` does. It answers how many log bytes were new to the follower: 0
-/// after a question, of which `marks` hears nothing.
+/// Serves one who came: answers whether the log is the one that a follower holds, or what the node's rank is,
+/// where that is asked, or sends the log, as `als_sending::send_log` does. It answers how many log bytes were
+/// new to the follower: 0 after a question, of which `marks` hears nothing.
 ///
 /// As `send_log` says; of a question Cut: the stream ended before it did. Stream: it failed, or the log did.
 /// Memory: there was none for a piece.
@@ -34,9 +35,9 @@ pub fn serve_log<G: Growing, M: Marks, R: Read, W: Write>(
 ) -> Result<u64, Fault>
     requires some { 1 ≤ window }
     requires few { window ≤ 64 }
-    // A question was answered by what each text says of which all reads are; or true frames of each such
-    // text were sent.
-    ensures serves { OnOk result (Answers (G.reads log.new) (G.shown log.new) (G.seals log.old)
+    // A question was answered, by what each text says of which all reads are, or by the rank of the log's own
+    // history and its acknowledged end; or true frames of each such text were sent.
+    ensures serves { OnOk result (AnswersOne (G.reads log.new) (G.shown log.new) (G.seals log.old)
         (R.remaining reader.old) (R.remaining reader.new) (W.contents writer.old)
         (W.contents writer.new)
         ⊎ ((text : List ℕ) → AreOf text (G.reads log.new) → SendsTrue text (G.seals log.old)
@@ -67,11 +68,15 @@ pub fn serve_log<G: Growing, M: Marks, R: Read, W: Write>(
         answer(alloc, log, reader, writer)?;
         return Ok(0);
     }
+    if first == RANK_TAG {
+        tell_rank(log, writer)?;
+        return Ok(0);
+    }
     serve_behind(alloc, log, marks, window, first, reader, writer)
 }
 
 /// The first byte that comes. Cut: none did. Stream: the stream failed.
-fn first_byte<R: Read>(reader: &mut R) -> Result<u8, Fault>
+pub(crate) fn first_byte<R: Read>(reader: &mut R) -> Result<u8, Fault>
     ensures found { IfOk result (λ byte. Consumes (R.remaining reader.old) (R.remaining reader.new)
         (byte ∷ [])) }
     ensures fails { IfErr result (λ f. (f ≡ Cut) ⊎ (f ≡ Stream)) }

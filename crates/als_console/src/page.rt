@@ -36,7 +36,7 @@ pub const PAGE: &str = "<!doctype html>
 <div class='primary'><dt>transactions</dt><dd id='transactions'>-</dd></div>
 <div class='primary'><dt>group size</dt><dd id='group'>-</dd></div>
 <div class='primary'><dt>force time</dt><dd id='force'>-</dd></div>
-<div class='wide'><dt>room in the log</dt><dd><span id='left'>-</span> <meter id='room' low='.1' optimum='1' aria-label='room in the log'></meter></dd></div>
+<div class='wide'><dt>room left</dt><dd><span id='left'>-</span> <meter id='room' low='.1' optimum='1' aria-label='room left'></meter></dd></div>
 </dl>
 </section>
 <section aria-labelledby='plot-head'>

@@ -1,6 +1,6 @@
 /// What the page does, in JavaScript.
 pub const SCRIPT: &str = "'use strict';
-// First and last number, name, what to do: of commits, of sessions.
+// First and last number, name, what to do.
 const REFUSED = [
   [13, 13, 'RecordHeld', 'A transaction in doubt holds the key. Decide it.'],
   [15, 15, 'TooManyTransactions', '256 are in doubt. Decide them.'],
@@ -17,7 +17,7 @@ const FAULTS = [
   [32, 32, 'Memory', 'An allocation failed; nothing is damaged. Give the machine more, and start again.'],
   [33, 34, 'damaged', 'A file of the folder is damaged, or --pages is not its own. als verify says more; als rebuild-pages makes pages.blk anew.'],
   [40, 41, 'Gap or BadFrame', 'No frame that may come: another version of als, or a file that was truncated or replaced.'],
-  [42, 42, 'Diverged', 'The node that sends was taken over, and this log parted from it. als rewind takes it back to there.'],
+  [42, 42, 'Diverged', 'The node that sends was taken over, and this log parted from it. als rewind takes it back.'],
   [43, 44, 'connection lost', 'Nobody sends there, or was silent for too long. With --keep it asks again.'],
   [48, 48, 'OtherEpoch', 'The node that sends is of another epoch. Follow the node that took over last, or rebuild.'],
   [50, 50, 'OtherLog', 'The node that sends has another log. Keep the folder, and compare sha256= of als verify of both.'],
@@ -37,7 +37,7 @@ const ask = path => fetch(path, { cache: 'no-store', signal: AbortSignal.timeout
 
 let samples = [], before = null, turn = 0;
 
-// A point of the plots. Where a count fell, the node began again.
+// Where a count fell, it began again.
 function sample(s) {
   const now = performance.now() / 1000, count = s.transactions ?? s.commits;
   let rate = null;
@@ -47,7 +47,7 @@ function sample(s) {
   samples.push({ now, rate, lag, redo: s.pending });
 }
 
-// 1, 2 or 5 times a power of ten.
+// 1, 2, 5, 10, 20 and on.
 function ceiling(n) {
   const unit = 10 ** Math.floor(Math.log10(n));
   return [1, 2, 5, 10].map(k => k * unit).find(m => m >= n);
@@ -123,7 +123,7 @@ function show(s, well) {
   put('pending', whole(s.pending));
   put('leases', whole(s.leases));
   put('frame', s.seconds_since_last_frame == null ? '-' : `${span(s.seconds_since_last_frame)} ago`);
-  put('left', s.left == null ? '-' : `${bytes(s.left)} of ${bytes(s.capacity)}`);
+  put('left', s.left == null ? '-' : `${bytes(s.left)} of ${bytes(s.capacity)}, ${whole(s.takeovers_left)} takeovers`);
   at('room').hidden = s.left == null;
   if (s.left != null) at('room').value = s.left / s.capacity;
   const leads = s.sync != null;
@@ -135,7 +135,7 @@ function show(s, well) {
     s.refused ? 'without a number' : 'none');
   if (s.followers) followers(s);
   if (leads) {
-    put('transactions', whole(s.transactions));
+    put('transactions', `${whole(s.transactions)}, ${whole(s.transactions_left)} left`);
     put('group', s.groups ? number(s.transactions / s.groups) : '-');
     put('force', s.groups ? `${number(s.force_microseconds / s.groups / 1000)} ms` : '-');
   }

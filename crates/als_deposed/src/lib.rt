@@ -2,6 +2,8 @@
 //! the contract of a function that does nothing.
 #![tactic(auto)]
 
+// What a leader answered.
+mod leading;
 // One standby, and a takeover of it.
 mod deposed;
 // What a primary hears of a standby.
@@ -15,3 +17,4 @@ pub use deposed::{
 };
 pub use enough::{the_longest_is_taken_over, the_longest_of_enough_holds_all};
 pub use heard::what_is_heard_was_told;
+pub use leading::what_a_leader_answered_is_taken_over;

@@ -247,12 +247,16 @@ impl<C: Clock, N: Naming> Growing for GrowingLog<'_, C, N> {
                 Grown::Ends
             });
         };
+        let knocks = self.stop.knocks();
         for _ in 0..beat.max(1) {
             if self.served()? > at {
                 return Ok(Grown::Past);
             }
             if self.stop.is_set() {
                 return Ok(Grown::Ends);
+            }
+            if self.stop.knocks() != knocks {
+                break;
             }
             thread::sleep(self.clock, Duration::from_millis(NAP));
         }

@@ -18,7 +18,7 @@ use als_followers::Terms;
 use als_operate::{Fault, silence};
 use als_sending::WINDOW_LIMIT;
 use als_ship::Fault as SessionFault;
-use als_shipper::{Callers, Meetings, NodeShipping, Shipping, serve_growing};
+use als_shipper::{Callers, LogQuestions, Meetings, NodeShipping, Shipping, serve_growing};
 use std::alloc::{AllocError, Global};
 use std::fs::{File, OpenFile};
 use std::io::Write;
@@ -140,8 +140,15 @@ fn ship_once<R: AllocGlobal + Files<File = File> + Net + Clock, M: Sessions, O: 
         path: shipping.log,
     };
     let mut log = GrowingLog::new(rt, path, opened, beat, &stop);
+    let path = ByPath {
+        rt,
+        path: shipping.log,
+    };
+    let beside = GrowingLog::new(rt, path, open_log(rt, shipping.log)?, None, &stop);
+    let questions = LogQuestions::new(rt.alloc(), beside);
     let listener = TcpListener::bind(rt, shipping.listen)?;
-    let mut callers = Callers::new(rt.alloc(), &listener, rt, silence(shipping.timeout));
+    let limit = silence(shipping.timeout);
+    let mut callers = Callers::answering(rt.alloc(), &listener, rt, limit, questions);
     for _ in 0..u64::MAX {
         let alloc = rt.alloc();
         let met = serve_growing(

@@ -122,6 +122,10 @@ impl<R: Wait + Clock> Serves for LogFile<R> {
         self.outbox.put(&self.rt, outcome);
         served
     }
+
+    fn knock(&self) {
+        self.stop.knock();
+    }
 }
 
 /// The file of a log, and the path that is to name it.

@@ -50,6 +50,10 @@ impl<M: Marks> Marks for Noted<'_, M> {
         self.marks.begin(from);
     }
 
+    fn send(&mut self) {
+        self.marks.send();
+    }
+
     fn acknowledge(&mut self, lsn: Lsn) {
         self.acknowledged = Some(lsn);
         self.marks.acknowledge(lsn);

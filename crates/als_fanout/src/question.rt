@@ -1,5 +1,6 @@
 ghost use Rattle.std.specs.Prelude.{◌≤◌};
 
+use als_compare::RANK_TAG;
 use als_shipper::{FRONT, LONGEST, RESUME, TAKEOVERS};
 use std::io;
 use std::io::Read;
@@ -12,10 +13,14 @@ pub(crate) struct Question {
 }
 
 impl Question {
-    /// Reads one. Of what is none a front is read.
+    /// Reads one. Of what is none a front is read. The question for a rank is one byte.
     pub fn read<I: Read>(reader: &mut I) -> io::Result<Question> {
         let mut bytes = [0; LONGEST];
-        reader.read_exact(&mut bytes[..FRONT])?;
+        reader.read_exact(&mut bytes[..1])?;
+        if bytes[0] == RANK_TAG {
+            return Ok(Question { bytes, count: 1 });
+        }
+        reader.read_exact(&mut bytes[1..FRONT])?;
         let count = FRONT + 8 * seals_in(&bytes);
         reader.read_exact(&mut bytes[FRONT..count])?;
         Ok(Question { bytes, count })

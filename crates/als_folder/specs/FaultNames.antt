@@ -47,6 +47,10 @@ IsOfLayout f = IsOfOpening f ⊎ IsOfNewDevice f
 abbrev pub IsOfRole : Fault → Type 0
 IsOfRole f = IsOf part.Itself f ⊎ IsOf part.Role f ⊎ IsOf part.NewRole f
 
+-- the folder failed, or the file of its id
+abbrev pub IsOfId : Fault → Type 0
+IsOfId f = IsOf part.Itself f ⊎ IsOf part.Id f ⊎ IsOf part.NewId f
+
 -- another program has the lock, or it failed
 abbrev pub IsOfLock : Fault → Type 0
 IsOfLock f = (f ≡ fault.Busy) ⊎ (f ≡ fault.Device (record { part = part.Itself; wrong = wrong.Failed }))

@@ -37,6 +37,7 @@ use std::os::unix::fs::FileExt;
 use std::path::{AsPath, PathBuf};
 use std::rt::Files;
 
+mod id_file;
 mod layout;
 mod role_file;
 

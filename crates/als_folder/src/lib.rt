@@ -25,6 +25,8 @@ mod holding;
 mod vacancy;
 // Which epoch the primary of a folder writes.
 mod role;
+// Which folder one is.
+mod folder_id;
 // The files that are locked with their folder.
 mod locks;
 // Whether the files still have their names.
@@ -35,6 +37,7 @@ mod folder;
 pub use devices::{DeviceFiles, Devices};
 pub use fault::Fault;
 pub use folder::Folder;
+pub use folder_id::FolderId;
 pub use lengths::Sizes;
 pub use limit::{FOLLOWED_PIECES, LOG_LIMIT};
 pub use name_watch::NameWatch;

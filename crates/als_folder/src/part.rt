@@ -22,6 +22,10 @@ pub enum Part {
     Role,
     /// The same, before it is whole.
     NewRole,
+    /// Which folder it is, for the nodes that it follows.
+    Id,
+    /// The same, before it is whole.
+    NewId,
 }
 
 impl Part {
@@ -39,6 +43,8 @@ impl Part {
             Part::NewPages => "pages.new",
             Part::Role => "role",
             Part::NewRole => "role.new",
+            Part::Id => "id",
+            Part::NewId => "id.new",
         }
     }
 }

@@ -8,9 +8,12 @@
 //! ```
 //!
 //! 1. A log is read below its tail alone: what is there is durable, and does not change any more.
-//! 2. A follower has a seat in the quorum from when it asked until its session ends.
-//! 3. A slow or silent peer holds up nobody else: it has a thread of its own, or none.
-//! 4. Each thread is joined by `close`.
+//! 2. A follower has a seat in the quorum from when it said the id of its folder, or else was admitted, until its
+//!    session ends. While it has one, nobody else follows under that id.
+//! 3. What a follower answers counts for the round in which the frame was sent: the tail's at the time. Answers come
+//!    in the order of the frames.
+//! 4. A slow or silent peer holds up nobody else: it has a thread of its own, or none.
+//! 5. Each thread is joined by `close`.
 #![tactic(auto)]
 
 // A node's log, read from its file.
@@ -19,10 +22,14 @@ mod node_log;
 mod pulse;
 // A log that is sent to one follower after another.
 mod serves;
+// In which rounds the frames were sent.
+mod rounds;
 // A follower's seat in the quorum.
 mod seated;
 // Remarks on followers.
 mod notice;
+// The addresses that were reported lately.
+mod hung_up;
 // The last notices, for who runs it.
 mod notices;
 // What all sessions have in common.
@@ -35,7 +42,7 @@ mod work;
 mod followers;
 
 pub use als_callers::{Allowed, Block};
-pub use als_quorum::{Quorum, Row, Tail};
+pub use als_quorum::{FolderId, Quorum, Row, Tail};
 pub use followers::Followers;
 pub use node_log::{NodeLog, NodeSource};
 pub use notice::{Notice, What};

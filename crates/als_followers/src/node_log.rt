@@ -34,6 +34,8 @@ pub struct NodeLog<R, F, P = Always> {
     beat: Duration,
     /// The end that was told last.
     shown: u64,
+    /// The tail's round when the last bytes were read, or when it was waited for last.
+    round: u64,
     /// What was read, for clauses alone.
     account: Account,
     ghost range: { IsHeader header },
@@ -50,6 +52,7 @@ impl<R: Drop, F: Drop, P: Drop> Drop for NodeLog<R, F, P> {
             history: _,
             beat: _,
             shown: _,
+            round: _,
             account,
         } = self;
         drop(rt);
@@ -86,7 +89,8 @@ impl<R: Wait + Clock, F: FileExt + Drop, P: Pulse + Drop> Growing for NodeLog<R,
     }
 
     fn wait_past(&mut self, at: u64) -> Result<Grown, Fault> {
-        let reach = self.tail.wait_past(&self.rt, at, self.beat);
+        let reach = self.tail.wait_past(&self.rt, at, self.round, self.beat);
+        self.round = self.tail.round(&self.rt);
         let grown = if reach.end.0 > at {
             Grown::Past
         } else if reach.is_closed {
@@ -102,6 +106,7 @@ impl<R: Wait + Clock, F: FileExt + Drop, P: Pulse + Drop> Growing for NodeLog<R,
     }
 
     fn read_at(&mut self, at: u64, buf: &mut [u8]) -> Result<(), Fault> {
+        self.round = self.tail.round(&self.rt);
         match self.file.read_exact_at(buf, at) {
             Ok(()) => {
                 self.account.read(at, buf);
@@ -233,6 +238,7 @@ impl<R: Wait + Clock + Clone + Drop, F: FileExt + Drop, P: Pulse + Drop> NodeSou
             history: self.history,
             beat: self.beat,
             shown: 0,
+            round: 0,
             account: Account::Nothing,
         })
     }
@@ -275,5 +281,9 @@ impl<R: Wait + Clock + Clone + Drop, F: FileExt + Drop, P: Pulse + Drop> Serves
         writer: &mut W,
     ) -> Result<u64, Fault> {
         self.send(alloc, marks, window, reader, writer)
+    }
+
+    fn knock(&self) {
+        self.tail.begin_round(&self.rt);
     }
 }

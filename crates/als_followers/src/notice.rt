@@ -22,6 +22,8 @@ pub enum What {
     Refused(Fault),
     /// Its address may not come. It was hung up on.
     Stranger,
+    /// The follower of another session has the id of its folder: one of the two is a copy. It was hung up on.
+    Twin,
     /// As many sessions as may be go on. It was hung up on.
     Crowded,
 }

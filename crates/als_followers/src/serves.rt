@@ -24,4 +24,7 @@ pub trait Serves {
     ) -> Result<u64, Fault>
         requires some { 1 ≤ window }
         requires few { window ≤ 64 };
+
+    /// Each session that waits gives its follower a sign now, and so ends where that is gone.
+    fn knock(&self) {}
 }

@@ -5,16 +5,24 @@ use crate::notice::{Notice, What};
 use crate::seated::Seated;
 use crate::serves::Serves;
 use als_callers::{Came, Guest, Pace};
+use als_compare::{ID_TAG, read_byte, read_id};
+use als_quorum::FolderId;
 use als_ship::Fault;
 use std::alloc::Global;
-use std::io;
 use std::io::{Read, Write};
 use std::net::OpenStream;
 use std::sync::Wait;
 use std::time::{Clock, Duration};
+use std::{io, thread};
 
 /// Milliseconds after which a read or a write of a silent peer looks whether its time is over.
 const TICK: u64 = 200;
+
+/// How often it is looked whether the session before has ended, whose follower has the id of another one.
+const LOOKS: u32 = 20;
+
+/// Milliseconds between two of these looks.
+const PAUSE: u64 = 50;
 
 /// How sessions go on.
 #[derive(Clone, Copy, Debug)]
@@ -38,6 +46,15 @@ impl Terms {
     }
 }
 
+/// What became of a session that did not fail.
+#[derive(Clone, Copy)]
+enum Sent {
+    /// It was served as far as it asked.
+    Served,
+    /// The follower of another session has the id of its folder.
+    Twin,
+}
+
 /// Serves one who came: the log from where it goes on, until it ends or the session does.
 pub(crate) fn serve<R: Wait + Clock, O: Serves, S: Read + Write + OpenStream + Drop>(
     rt: &R,
@@ -46,17 +63,21 @@ pub(crate) fn serve<R: Wait + Clock, O: Serves, S: Read + Write + OpenStream + D
     came: Came<S>,
 ) {
     let Came { stream, peer, at } = came;
-    let mut seated = Seated::new(rt, &common.tail, &common.quorum, &common.notices, peer);
+    let (tail, quorum) = (&common.tail, &common.quorum);
+    let Ok(mut seated) = Seated::new(rt, alloc, tail, quorum, &common.notices, peer) else {
+        return;
+    };
     let pace = Pace::new(&common.closing, common.terms.limit, at);
     let served = send(rt, alloc, common, &mut seated, stream, &pace);
     let has_begun = seated.has_begun();
     seated.leave();
     let what = match served {
-        Ok(()) if has_begun => What::Ended,
+        Ok(Sent::Twin) => What::Twin,
+        Ok(Sent::Served) if has_begun => What::Ended,
         Err(fault) if has_begun => What::Went(fault),
         Err(fault) if is_refusal(fault) => What::Refused(fault),
         // Whoever did not ask for the log is no follower, as one who only asked what log it is.
-        Ok(()) | Err(_) => return,
+        Ok(Sent::Served) | Err(_) => return,
     };
     common.notices.put(rt, Notice { peer, what });
 }
@@ -66,7 +87,8 @@ fn is_refusal(fault: Fault) -> bool {
     !matches!(fault, Fault::Cut | Fault::Stream | Fault::Memory)
 }
 
-/// Sends the log over a stream.
+/// Sends the log over a stream. A follower may say the id of its folder first: then it takes its seat under
+/// that, and where the follower of another session has the id nothing is sent.
 fn send<'a, R: Wait + Clock, O: Serves, S: Read + Write + OpenStream + Drop>(
     rt: &'a R,
     alloc: Global,
@@ -74,15 +96,47 @@ fn send<'a, R: Wait + Clock, O: Serves, S: Read + Write + OpenStream + Drop>(
     seated: &mut Seated<'_, R>,
     stream: S,
     pace: &'a Pace<'a>,
-) -> Result<(), Fault> {
+) -> Result<Sent, Fault> {
     bound(&stream)?;
     let mut reader = Guest::new(stream.try_clone()?, rt, pace);
     let mut writer = Guest::new(stream, rt, pace);
+    let first = [read_byte(&mut reader)?];
+    let mut front = first.as_slice();
+    if first[0] == ID_TAG {
+        let bytes = read_id(&mut reader)?;
+        if !claim_at_last(rt, common, seated, FolderId { bytes }) {
+            return Ok(Sent::Twin);
+        }
+        front = &[];
+    }
+    let mut asked = front.chain(&mut reader);
     let window = common.terms.window;
     common
         .source
-        .serve(alloc, seated, window, &mut reader, &mut writer)?;
-    Ok(())
+        .serve(alloc, seated, window, &mut asked, &mut writer)?;
+    Ok(Sent::Served)
+}
+
+/// Takes a seat for the follower with the id of this folder. One that was begun again may come before the session ended
+/// that it had, which sleeps while the log does not grow: each session gives a sign, and a moment is waited for that one to
+/// end. Returns whether there is a seat.
+fn claim_at_last<R: Wait + Clock, O: Serves>(
+    rt: &R,
+    common: &Common<O>,
+    seated: &mut Seated<'_, R>,
+    id: FolderId,
+) -> bool {
+    if seated.claim(id) {
+        return true;
+    }
+    common.source.knock();
+    for _ in 0..LOOKS {
+        thread::sleep(rt, Duration::from_millis(PAUSE));
+        if seated.claim(id) {
+            return true;
+        }
+    }
+    false
 }
 
 /// From now on a read or a write of the stream waits for a moment.

@@ -88,7 +88,7 @@ impl<R: Wait + Clock, O: Drop> Work for Porter<R, O> {
 }
 
 /// Hands one who asked to a thread, or hangs up.
-fn welcome<R: Wait, O>(rt: &R, common: &Common<O>, came: Came<TcpStream>) {
+fn welcome<R: Wait + Clock, O>(rt: &R, common: &Common<O>, came: Came<TcpStream>) {
     let peer = came.peer;
     let what = if !common.quorum.admits(peer) {
         What::Stranger

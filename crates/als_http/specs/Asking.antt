@@ -4,7 +4,7 @@ use Rattle.std.specs.List.{position_from}
 use Rattle.als_http.specs.Numbers.{number_of}
 use Rattle.als_http.specs.declared.asked.Asked.{Asked}
 use Rattle.als_console.specs.declared.text.Text.TheVariants.{Page, Script, Style}
-use Rattle.als_http.specs.declared.asked.Asked.TheVariants.{Value, Status, Metrics, Health, Console, NoNumber, Nothing}
+use Rattle.als_http.specs.declared.asked.Asked.TheVariants.{Value, Status, Metrics, Health, Primary, Standby, Console, NoNumber, Nothing}
 
 -- the key of these numbers, which have 32 bits each
 abbrev pub key_asked : Option ℕ → Option ℕ → Asked
@@ -33,9 +33,15 @@ page_asked path =
     else (if bytes_eq path (codes "/page.js") then Console Script
     else (if bytes_eq path (codes "/page.css") then Console Style else Nothing))
 
+-- what a path asks for that names a role of the node, or else a key or a text of the page
+unfoldable pub role_asked : List ℕ → Asked
+role_asked path =
+    if bytes_eq path (codes "/primary") then Primary
+    else (if bytes_eq path (codes "/standby") then Standby
+    else (if bytes_eq (take 6 path) (codes "/keys/") then slot_asked (drop 6 path) else page_asked path))
+
 unfoldable pub asked_by : List ℕ → Asked
 asked_by path =
     if bytes_eq path (codes "/status") then Status
     else (if bytes_eq path (codes "/metrics") then Metrics
-    else (if bytes_eq path (codes "/health") then Health
-    else (if bytes_eq (take 6 path) (codes "/keys/") then slot_asked (drop 6 path) else page_asked path)))
+    else (if bytes_eq path (codes "/health") then Health else role_asked path))

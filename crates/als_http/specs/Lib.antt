@@ -3,3 +3,4 @@ pub mod Asking
 pub mod Hosts
 pub mod Telling
 pub mod Replies
+pub mod Leaving

@@ -1,5 +1,5 @@
 -- What a query is replied, and what of that a response shows.
-use Rattle.std.specs.Prelude.{◌≡◌, ℕ, List, [], ◌∷◌, ◌⊎◌, codes, decimal, Option, IfSome, Some, if◌then◌else◌}
+use Rattle.std.specs.Prelude.{◌≡◌, ℕ, Bool, List, [], ◌∷◌, ◌⊎◌, codes, decimal, Option, IfSome, Some, if◌then◌else◌}
 use Rattle.http1.specs.Fields.{Header}
 use Rattle.http_server.specs.declared.response.Response.{Response}
 use Rattle.http_server.specs.Response.{IsResponse, fields_of}
@@ -7,8 +7,8 @@ use Rattle.als_view.specs.Entries.{Begins}
 use Rattle.als_view.specs.Views.{known_to, pages_of, IsSameReader}
 use Rattle.als_view.specs.declared.reader.Reader.{Reader}
 use Rattle.json.specs.Print.{print}
-use Rattle.als_report.specs.Texts.{value_tokens, status_tokens, health_tokens, error_tokens, why_unread}
-use Rattle.als_report.specs.Health.{is_healthy}
+use Rattle.als_report.specs.Texts.{value_tokens, status_tokens, health_tokens, primary_flag_tokens, standby_flag_tokens, error_tokens, why_unread}
+use Rattle.als_report.specs.Health.{is_healthy, is_primary, is_standby}
 use Rattle.als_report.specs.declared.report.Report.{Report}
 use Rattle.als_report.specs.Reading.{IsRead, IsUnread, count_in}
 use Rattle.als_http.specs.declared.query.Query.{Query}
@@ -17,14 +17,20 @@ use Rattle.als_http.specs.declared.query.Wrong.{Wrong}
 use Rattle.als_http.specs.declared.query.Wrong.TheVariants.{Path, Method, Number, Lsn, Host}
 use Rattle.als_http.specs.declared.reply.Reply.{Reply}
 use Rattle.als_console.specs.Texts.{text_of, type_of as type_of_text, policy}
-use Rattle.als_http.specs.declared.reply.Reply.TheVariants.{Value, Unread, Status, Metrics, Health, Console, Refused}
+use Rattle.als_http.specs.declared.reply.Reply.TheVariants.{Value, Unread, Status, Metrics, Health, Primary, Standby, Console, Refused}
+
+-- the status by which a load balancer is told that something is so
+abbrev pub status_of_flag : Bool → ℕ
+status_of_flag flag = if flag then 200 else 503
 
 abbrev pub status_of : Reply → ℕ
 status_of (Value a) = 200
 status_of (Unread e) = 503
 status_of (Status r n) = 200
 status_of (Metrics r n) = 200
-status_of (Health r n) = if is_healthy r n then 200 else 503
+status_of (Health r n) = status_of_flag (is_healthy r n)
+status_of (Primary r) = status_of_flag (is_primary r)
+status_of (Standby r n) = status_of_flag (is_standby r n)
 status_of (Console t) = 200
 status_of (Refused Path) = 404
 status_of (Refused Method) = 405
@@ -42,7 +48,7 @@ fields_of_wrong Host = []
 
 -- what is wrong with a request, in words
 abbrev pub why_wrong : Wrong → List ℕ
-why_wrong Path = codes "no such path: /, /keys/P/S, /status, /metrics, /health, and /in-doubt of a primary"
+why_wrong Path = codes "no such path: /, /keys/P/S, /status, /metrics, /health, /primary, /standby, and /in-doubt of a primary"
 why_wrong Method = codes "GET and HEAD are answered, and POST of /commit, /prepare and /decide by a primary"
 why_wrong Number = codes "a page and a slot are decimal numbers below 2^32"
 why_wrong Lsn = codes "Als-At-Least is one decimal number below 2^64"
@@ -70,6 +76,8 @@ own_fields (Unread e) = []
 own_fields (Status r n) = []
 own_fields (Metrics r n) = []
 own_fields (Health r n) = []
+own_fields (Primary r) = []
+own_fields (Standby r n) = []
 own_fields (Console t) = page_fields
 own_fields (Refused w) = fields_of_wrong w
 
@@ -80,6 +88,8 @@ type_of (Unread e) = codes "application/json"
 type_of (Status r n) = codes "application/json"
 type_of (Metrics r n) = codes "text/plain; version=0.0.4"
 type_of (Health r n) = codes "application/json"
+type_of (Primary r) = codes "application/json"
+type_of (Standby r n) = codes "application/json"
 type_of (Console t) = type_of_text t
 type_of (Refused w) = codes "application/json"
 
@@ -94,6 +104,8 @@ HasText (Unread e) text = text ≡ print (error_tokens (why_unread e))
 HasText (Status r n) text = text ≡ print (status_tokens r n)
 HasText (Metrics r n) text = Unit {0}
 HasText (Health r n) text = text ≡ print (health_tokens (is_healthy r n))
+HasText (Primary r) text = text ≡ print (primary_flag_tokens (is_primary r))
+HasText (Standby r n) text = text ≡ print (standby_flag_tokens (is_standby r n))
 HasText (Console t) text = text ≡ text_of t
 HasText (Refused w) text = text ≡ print (error_tokens (why_wrong w))
 
@@ -108,6 +120,8 @@ Replies tells (query.Value key lsn) (Unread e) old new = IsUnread (known_to old)
 Replies tells query.Status (Status r n) old new = IsTold tells r n new
 Replies tells query.Metrics (Metrics r n) old new = IsTold tells r n new
 Replies tells query.Health (Health r n) old new = IsTold tells r n new
+Replies tells query.Primary (Primary r) old new = tells r
+Replies tells query.Standby (Standby r n) old new = IsTold tells r n new
 Replies tells (query.Console t) (Console u) old new = u ≡ t
 Replies tells (query.Refused w) (Refused v) old new = v ≡ w
 Replies tells q r old new = ⊥

@@ -11,7 +11,7 @@ use Rattle.als_http.specs.declared.hosts.Hosts.{Hosts}
 use Rattle.als_http.specs.declared.asked.Asked.{Asked}
 use Rattle.als_http.specs.declared.asked.Asked.TheVariants as asked
 use Rattle.als_http.specs.declared.query.Query.{Query}
-use Rattle.als_http.specs.declared.query.Query.TheVariants.{Value, Status, Metrics, Health, Console, Refused}
+use Rattle.als_http.specs.declared.query.Query.TheVariants.{Value, Status, Metrics, Health, Primary, Standby, Console, Refused}
 use Rattle.als_http.specs.declared.query.Wrong.TheVariants.{Path, Method, Number, Lsn, Host}
 
 -- the LSN that a field names: 0 without one, none where it is no number or there are two
@@ -27,6 +27,8 @@ told (asked.Value key) (Some lsn) = Value key (record { 0 = lsn })
 told asked.Status lsn = Status
 told asked.Metrics lsn = Metrics
 told asked.Health lsn = Health
+told asked.Primary lsn = Primary
+told asked.Standby lsn = Standby
 told (asked.Console text) lsn = Console text
 told asked.NoNumber lsn = Refused Number
 told asked.Nothing lsn = Refused Path

@@ -82,6 +82,11 @@ impl<S: Reports> Answering<S> {
                 let report = self.standing.report();
                 Reply::Health(report, published(&mut self.reader))
             }
+            Query::Primary => Reply::Primary(self.standing.report()),
+            Query::Standby => {
+                let report = self.standing.report();
+                Reply::Standby(report, published(&mut self.reader))
+            }
             Query::Console(text) => Reply::Console(text),
             Query::Refused(why) => Reply::Refused(why),
         }

@@ -12,6 +12,10 @@ pub enum Asked {
     Metrics,
     /// `/health`.
     Health,
+    /// `/primary`.
+    Primary,
+    /// `/standby`.
+    Standby,
     /// A text of the page: `/`, `/page.js` or `/page.css`.
     Console(Text),
     /// `/keys/P/S`, where P or S is not a number below 2^32.

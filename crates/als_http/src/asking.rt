@@ -1,6 +1,7 @@
 ghost use Rattle.std.specs.Prelude.{◌≡◌, ◌<◌, length, IfSome};
 ghost use Rattle.std.specs.List.{position_from};
-ghost use Rattle.als_http.specs.Asking.{asked_by, page_asked, key_asked, slot_asked, is_slash};
+ghost use Rattle.als_http.specs.Asking.{asked_by, role_asked, page_asked, key_asked};
+ghost use Rattle.als_http.specs.Asking.{slot_asked, is_slash};
 
 use crate::asked::Asked;
 use crate::numbers::number;
@@ -26,6 +27,20 @@ pub fn asked_by(path: &str) -> Asked
     }
     if path == "/health" {
         return Asked::Health;
+    }
+    role_of(path)
+}
+
+/// What a path asks for that names a role of the node, or else a key or a text of the page.
+#[tactic(auto, unfolding(crate::specs::Asking::role_asked))]
+fn role_of(path: &str) -> Asked
+    ensures { result ≡ role_asked path.now }
+{
+    if path == "/primary" {
+        return Asked::Primary;
+    }
+    if path == "/standby" {
+        return Asked::Standby;
     }
     match path.as_bytes().strip_prefix(KEYS) {
         Some(text) => slot_of(text),

@@ -7,7 +7,10 @@ use crate::page_fields::{add_page_fields, console_type};
 use crate::query::Wrong;
 use crate::reply::Reply;
 use crate::wrong_text::wrong_text;
-use als_report::{health_text, metrics_text, status_text, unread_text, value_text};
+use als_report::{
+    health_text, metrics_text, primary_flag_text, standby_flag_text, status_text, unread_text,
+    value_text,
+};
 use bytes::Bytes;
 use http::{HeaderName, HeaderValue, StatusCode};
 use http_server::Response;
@@ -55,6 +58,8 @@ fn text_of(alloc: Global, reply: &Reply) -> Result<Vec<u8>, AllocError>
         Reply::Status(report, commits) => status_text(alloc, report, *commits),
         Reply::Metrics(report, commits) => metrics_text(alloc, report, *commits),
         Reply::Health(report, commits) => health_text(alloc, report.is_healthy(*commits)),
+        Reply::Primary(report) => primary_flag_text(alloc, report.is_primary()),
+        Reply::Standby(report, commits) => { standby_flag_text(alloc, report.is_standby(*commits)) }
         Reply::Console(text) => Ok(text.text().as_bytes().to_vec(alloc)?),
         Reply::Refused(why) => wrong_text(alloc, *why),
     }

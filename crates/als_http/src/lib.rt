@@ -66,6 +66,8 @@ mod terms;
 mod spare;
 // How long a peer has been asking, and being answered.
 mod turn;
+// The last answer of a connection says that it is.
+mod leaving;
 
 pub use answering::Answering;
 pub use asked::Asked;

@@ -41,10 +41,11 @@ pub(crate) const CROWDED: u64 = 1_000;
 /// Milliseconds within which a request has to be whole.
 pub(crate) const REQUEST: u64 = 5_000;
 
-/// Milliseconds within which a response has to be taken.
+/// Milliseconds within which what a read asked for has to be taken, less the time that the node itself took
+/// for it.
 pub(crate) const RESPONSE: u64 = 5_000;
 
-/// Milliseconds after which a connection is closed, so that nobody keeps a thread.
+/// Milliseconds after which the next answer of a connection is its last one, so that nobody keeps a thread.
 pub(crate) const LIFE: u64 = 60_000;
 
 /// The most reads after the last response of a connection. Without them the system could take the response

@@ -36,11 +36,18 @@ impl<'a, S, C: Clock> Peer<'a, S, C> {
         }
     }
 
-    /// Whether the connection ends here, between two requests.
-    fn has_ended(&self, now: Duration) -> bool {
-        !self.turn.is_asking()
-            && (self.connections.is_closed()
-                || now.saturating_sub(self.begun) >= Duration::from_millis(LIFE))
+    /// Whether the connection ends here, between two requests: the threads are to end.
+    fn has_ended(&self) -> bool {
+        !self.turn.is_asking() && self.connections.is_closed()
+    }
+
+    /// Bytes of a request came. If the connection has lasted for its time, its answer is the last one. It is
+    /// not closed before that: the peer may just be sending.
+    fn hear(&self, now: Duration) {
+        self.turn.ask(now);
+        if now.saturating_sub(self.begun) >= Duration::from_millis(LIFE) {
+            self.turn.end();
+        }
     }
 
     /// Whether the time of the peer is over, if it has been silent since then.
@@ -82,7 +89,7 @@ impl<S: Read, C: Clock> Read for Peer<'_, S, C> {
     fn read(&mut self, into: &mut [u8]) -> io::Result<usize> {
         let mut since = self.clock.monotonic()?;
         self.turn.listen(since);
-        if self.has_ended(since) {
+        if self.has_ended() {
             return Ok(0);
         }
         for _ in 0..u64::MAX {
@@ -90,7 +97,7 @@ impl<S: Read, C: Clock> Read for Peer<'_, S, C> {
             let now = self.clock.monotonic()?;
             match heard {
                 Ok(count) => {
-                    self.turn.ask(now);
+                    self.hear(now);
                     // A peer that drips is never silent.
                     return if self.turn.asking(now) < REQUEST {
                         Ok(count)

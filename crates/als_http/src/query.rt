@@ -9,6 +9,10 @@ pub enum Query {
     Status,
     Metrics,
     Health,
+    /// Whether clients may send it commits.
+    Primary,
+    /// Whether it is a healthy standby.
+    Standby,
     /// A text of the page.
     Console(Text),
     Refused(Wrong),

@@ -1,4 +1,5 @@
 ghost use Rattle.std.specs.Prelude.{◌≡◌};
+ghost use Rattle.als_http.specs.Replies.{status_of_flag};
 
 use crate::query::Wrong;
 use als_console::Text;
@@ -19,6 +20,10 @@ pub enum Reply {
     Metrics(Report, Option<u64>),
     /// Whether the node is healthy by this report and number of published commits.
     Health(Report, Option<u64>),
+    /// Whether clients may send the node commits, by this report.
+    Primary(Report),
+    /// Whether it is a healthy standby by this report and number of published commits.
+    Standby(Report, Option<u64>),
     /// A text of the page.
     Console(Text),
     /// Why the request is refused.
@@ -37,17 +42,24 @@ impl Reply {
                 StatusCode::OK
             }
             Reply::Unread(_) => StatusCode::SERVICE_UNAVAILABLE,
-            Reply::Health(report, commits) => {
-                if report.is_healthy(*commits) {
-                    StatusCode::OK
-                } else {
-                    StatusCode::SERVICE_UNAVAILABLE
-                }
-            }
+            Reply::Health(report, commits) => status_of_flag(report.is_healthy(*commits)),
+            Reply::Primary(report) => status_of_flag(report.is_primary()),
+            Reply::Standby(report, commits) => status_of_flag(report.is_standby(*commits)),
             Reply::Refused(Wrong::Path) => StatusCode::NOT_FOUND,
             Reply::Refused(Wrong::Method) => StatusCode::METHOD_NOT_ALLOWED,
             Reply::Refused(Wrong::Number | Wrong::Lsn) => StatusCode::BAD_REQUEST,
             Reply::Refused(Wrong::Host) => StatusCode::MISDIRECTED_REQUEST,
         }
+    }
+}
+
+/// The status by which a load balancer is told that something is so.
+fn status_of_flag(flag: bool) -> StatusCode
+    ensures { result ≡ status_of_flag flag }
+{
+    if flag {
+        StatusCode::OK
+    } else {
+        StatusCode::SERVICE_UNAVAILABLE
     }
 }

@@ -58,6 +58,8 @@ fn told(asked: Asked, lsn: Option<u64>) -> Query
         Asked::Status => Query::Status,
         Asked::Metrics => Query::Metrics,
         Asked::Health => Query::Health,
+        Asked::Primary => Query::Primary,
+        Asked::Standby => Query::Standby,
         Asked::Console(text) => Query::Console(text),
         Asked::NoNumber => Query::Refused(Wrong::Number),
         Asked::Nothing => Query::Refused(Wrong::Path),

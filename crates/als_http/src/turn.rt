@@ -1,5 +1,5 @@
 use crate::limits::STILL;
-use std::sync::atomic::{AtomicU64, Ordering};
+use std::sync::atomic::{AtomicBool, AtomicU64, Ordering};
 use std::time::Duration;
 
 /// When a peer began its request, when its response began, and when its thread last looked at it:
@@ -9,6 +9,8 @@ pub(crate) struct Turn {
     asked: AtomicU64,
     answered: AtomicU64,
     looked: AtomicU64,
+    /// Whether the next answer is the last one of the connection.
+    is_last: AtomicBool,
 }
 
 impl Turn {
@@ -18,6 +20,7 @@ impl Turn {
             asked: AtomicU64::new(0),
             answered: AtomicU64::new(0),
             looked: AtomicU64::new(0),
+            is_last: AtomicBool::new(false),
         }
     }
 
@@ -55,11 +58,24 @@ impl Turn {
         self.asked.load(Ordering::SeqCst) != 0
     }
 
-    /// Bytes of a response are sent: the request was whole.
+    /// Bytes of a response are sent: the request was whole. What has passed since the thread last turned away
+    /// from its peer was the node's own time, and is not taken from the peer.
     pub fn answer(&self, now: Duration) {
         self.asked.store(0, Ordering::SeqCst);
-        self.look(now);
+        let own = since(&self.looked, now);
+        self.rest(now);
+        put_off(&self.answered, own);
         begin(&self.answered, now);
+    }
+
+    /// The connection has lasted long enough: it ends with the next answer, which says so.
+    pub fn end(&self) {
+        self.is_last.store(true, Ordering::SeqCst);
+    }
+
+    /// Whether the next answer is the last one of the connection.
+    pub fn is_last(&self) -> bool {
+        self.is_last.load(Ordering::SeqCst)
     }
 
     /// Milliseconds since the first byte of the current request, or 0.

@@ -20,7 +20,7 @@ fn why_wrong(why: Wrong) -> &'static str
 {
     match why {
         Wrong::Path =>
-            "no such path: /, /keys/P/S, /status, /metrics, /health, and /in-doubt of a primary",
+            "no such path: /, /keys/P/S, /status, /metrics, /health, /primary, /standby, and /in-doubt of a primary",
         Wrong::Method =>
             "GET and HEAD are answered, and POST of /commit, /prepare and /decide by a primary",
         Wrong::Number => "a page and a slot are decimal numbers below 2^32",

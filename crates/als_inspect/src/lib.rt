@@ -34,5 +34,5 @@ pub use dumping::dump;
 pub use fault::Fault;
 pub use getting::get;
 pub use page_checking::check_pages;
-pub use standing::{is_following, status};
+pub use standing::{is_following, rank_of, status};
 pub use verifying::{verify, verify_telling};

@@ -2,6 +2,7 @@ use crate::fault::Fault;
 use crate::log_text::{Database, database_of};
 use crate::restarting::restarted;
 use als_ckpt::Phase;
+use als_compare::Rank;
 use als_engine::{Events, History};
 use als_folder::{Folder, Role};
 use als_progress::Advance;
@@ -14,7 +15,7 @@ use std::sync::Wait;
 
 /// Prints what the standby of a folder holds: its phase, its page count, where its log ends and up
 /// to where that is acknowledged, where its checkpoint stands and how many bytes of log lie behind
-/// it, how many bytes the log takes at most, and how many more it takes; the seals of the takeovers
+/// it, how many bytes the log takes at most, and how many more it takes, and its rank; the seals of the takeovers
 /// before it, if there are any, as `show epochs` does; its role, if it is a primary's; and then each
 /// unended transaction, as `show table` does. The folder is only read. `advance` receives how far its
 /// log was.
@@ -55,6 +56,17 @@ pub fn is_following<R: AllocGlobal + Files<File = File>>(rt: &R, dir: &str) -> R
     }
 }
 
+/// The rank of a folder's node among those of its database: what its control block says. Its log is not
+/// read.
+///
+/// As `database_of` refuses the folder.
+pub fn rank_of<R: AllocGlobal + Files<File = File>>(rt: &R, dir: &str) -> Result<Rank, Fault> {
+    let folder = Folder::hold_to_read(rt, dir)?;
+    let files = folder.open_to_read(rt)?;
+    let database = database_of(rt.alloc(), &files)?;
+    Ok(Rank::new(&database.state.history, database.state.mark.0))
+}
+
 /// Prints the state of a standby and its open transactions.
 fn tell<E: Events, O: Write>(
     alloc: Global,
@@ -70,14 +82,16 @@ fn tell<E: Events, O: Write>(
     let (end, acknowledged) = (status.end.0, status.acknowledged.0);
     let position = database.state.position.0;
     let behind = acknowledged.saturating_sub(position.max(FIRST));
+    let history = events.history();
+    let Rank { seal, end: whole } = Rank::new(&history, acknowledged);
     writeln!(
         output,
-        "phase={} pages={pages} end={end} ack={acknowledged} checkpoint={position} behind={behind} transactions={} capacity={capacity} left={}",
+        "phase={} pages={pages} end={end} ack={acknowledged} checkpoint={position} behind={behind} transactions={} capacity={capacity} left={} rank={seal}/{whole}",
         name_of(database.state.phase),
         rows.len(),
         capacity.saturating_sub(end)
     )?;
-    seals(&events.history(), output)?;
+    seals(&history, output)?;
     if let Some(Role { epoch }) = role {
         writeln!(output, "role primary epoch={epoch}")?;
     }

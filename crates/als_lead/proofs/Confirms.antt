@@ -205,7 +205,7 @@ undecided_confirmed confirmed m (forced.Confirmed lsn) s c asked r h = elim h [
 undecided_confirmed confirmed m forced.Unconfirmed s c asked r h = tt
 undecided_confirmed confirmed m (forced.Failed f) s c asked r h = inr (ended_undecided m asked r f h)
 
-confirmed_after : (confirmed : ℕ → Type 0) (m : Machine) (result : Forced) → IsStableIn result m → HoldsIn confirmed result → (asked : Work) (a : Answer) → IsHeld m asked a → IsConfirmedBy confirmed m asked (answer_after result asked a)
+pub confirmed_after : (confirmed : ℕ → Type 0) (m : Machine) (result : Forced) → IsStableIn result m → HoldsIn confirmed result → (asked : Work) (a : Answer) → IsHeld m asked a → IsConfirmedBy confirmed m asked (answer_after result asked a)
 confirmed_after confirmed m result s c asked (Committed w) h = written_confirmed confirmed m result c asked w
 confirmed_after confirmed m result s c asked (Prepared w) h = written_confirmed confirmed m result c asked w
 confirmed_after confirmed m result s c asked (Decided w) h = written_confirmed confirmed m result c asked w

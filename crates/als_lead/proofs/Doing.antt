@@ -1,12 +1,11 @@
 -- What one work makes of a machine, and what several do.
-use Rattle.std.proofs.Common.{◌≡◌, ◌⊎◌, ℕ, true, false, List, [], ◌∷◌, ◌++◌, refl, sym, ap, subst, ◌∙◌, inl, inr, arith, append-nil, append_assoc, take}
+use Rattle.std.proofs.Common.{◌≡◌, ◌⊎◌, ℕ, true, false, List, [], ◌∷◌, ◌++◌, refl, sym, ap, subst, ◌∙◌, inl, inr, append-nil, append_assoc, take}
 use Rattle.std.specs.List.{AllByRecursion}
 use Rattle.als_record.specs.declared.record.Record.{Record}
 use Rattle.als_record.specs.declared.trans_id.TransId.{TransId}
-use Rattle.als_record.specs.Commits.{Commit, commits_of}
+use Rattle.als_record.specs.Commits.{Commit, Write, commits_of}
 use Rattle.als_record.specs.Tail.{tail_of}
-use Rattle.als_record.proofs.PageLaws.{end_of-append}
-use Rattle.als_writing.specs.Writing.{updates, prepared, MayWrite}
+use Rattle.als_writing.specs.Writing.{Ends, record_for, prepared, MayWrite}
 use Rattle.als_store.specs.declared.decision.Decision.{Decision}
 use Rattle.als_engine.specs.Machine.{Machine, Keeps}
 use Rattle.als_writer.specs.declared.not_decided.NotDecided.{NotDecided as Undecided}
@@ -17,7 +16,7 @@ use Rattle.als_writer.specs.declared.work.Work.{Work}
 use Rattle.als_writer.specs.declared.work.Work.TheVariants as work
 use Rattle.als_writer.specs.declared.written.Written.{Written}
 use Rattle.als_writer.specs.Refused.{ShowsFailing}
-use Rattle.als_writer.specs.Committing.{Commits, IsCut, NotWritten}
+use Rattle.als_writer.specs.Committing.{committed, AreCommitted, Commits, IsCut, NotWritten}
 use Rattle.als_writer.specs.Preparing.{Prepares, NotPrepared}
 use Rattle.als_writer.specs.Deciding.{deciding, commits_by, Decides, DecisionRefused}
 use Rattle.als_lead.specs.declared.answer.Answer.{Answer}
@@ -27,20 +26,34 @@ use Rattle.als_lead.specs.Going.{Grows, Tidies}
 use Rattle.als_lead.specs.Answers.{IsIn, IsPreparedIn, IsDecidedIn, IsWritten, AddsWritten, AddsBy, Adds, IsNotDone, WasRefused, commit_by}
 use Rattle.als_lead.specs.Groups.{IsHeld, IsHeldOf, IsUnwritten, IsUndecided, IsNotBegun, Does, DoesAll}
 use Rattle.als_lead.proofs.Going.{grows_refl, grows_trans, grows_keeps}
+use Rattle.als_lead.proofs.Placing.{transaction-parts}
 
 -- ---- what is written
 
+-- the commit of a transaction that is held, and behind it nothing or its end
+behind_commit : (log : List Record) (t : ℕ) (writes : List Write) (records : List Record) → AreCommitted log t writes records → (rest : List Record) × (records ≡ committed log t writes ++ rest)
+behind_commit log t writes records h = elim h [
+  | inl whole ↦ (record_for (log ++ committed log t writes) t Ends ∷ [], whole ∙ transaction-parts log t writes)
+  | inr short ↦ ([], short ∙ sym (append-nil (committed log t writes)))
+]
+
 is_in : (old : Machine) (t : Transaction) (w : Written) (new : Machine) → Commits old t w new → IsIn new t w
-is_in old t w new c = record {
-  past = old.held.log;
-  rest = c.in_log.records;
-  later = [];
-  log = ap (λ (m : Machine). m.held.log) c.in_log.after;
-  begins = omega (arith, c.in_log.lsn, end_of-append old.held.log (updates old.held.log w.trans.0 t.sets.items));
-  end = c.in_log.end;
-  asked = c.asked;
-  commits = c.in_log.commits;
-}
+is_in old t w new c =
+    let log : List Record = old.held.log in
+    let writes : List Write = t.sets.items in
+    let pages : new.held.pages ≡ old.held.pages = ap (λ (m : Machine). m.held.pages) c.in_log.after in
+    let behind : (rest : List Record) × (c.in_log.records ≡ committed log w.trans.0 writes ++ rest) = behind_commit log w.trans.0 writes c.in_log.records c.in_log.whole in
+    record {
+      past = log;
+      rest = behind.0;
+      later = [];
+      log = ap (λ (m : Machine). m.held.log) c.in_log.after ∙ ap (λ (l : List Record). log ++ l) behind.1 ∙ sym (append_assoc log (committed log w.trans.0 writes) behind.0);
+      may = subst (λ (n : ℕ). MayWrite n log w.trans.0 writes) (sym pages) c.in_log.may;
+      lsn = c.in_log.lsn;
+      end = c.in_log.end;
+      asked = c.asked;
+      commits = c.in_log.commits;
+    }
 
 pub does_commit : (old : Machine) (t : Transaction) (w : Written) (new : Machine) → Commits old t w new → Keeps old new → Does old (work.Commit t) (Unknown w) new
 does_commit old t w new c k = record {
@@ -257,16 +270,19 @@ undecided_again old mid new asked r answer first last = does_tidied old mid new 
 -- ---- what is held stays so
 
 in_on : (mid new : Machine) (cs : List Commit) → Grows mid new → commits_of new.held.log ≡ commits_of mid.held.log ++ cs → (t : Transaction) (w : Written) → IsIn mid t w → IsIn new t w
-in_on mid new cs g e t w i = record {
-  past = i.past;
-  rest = i.rest ++ g.more;
-  later = i.later ++ cs;
-  log = g.log ∙ ap (λ (l : List Record). l ++ g.more) i.log ∙ append_assoc i.past i.rest g.more;
-  begins = i.begins;
-  end = i.end;
-  asked = i.asked;
-  commits = e ∙ ap (λ (x : List Commit). x ++ cs) i.commits ∙ append_assoc (commits_of i.past) (commit_by t w ∷ i.later) cs;
-}
+in_on mid new cs g e t w i =
+    let records : List Record = committed i.past w.trans.0 t.sets.items in
+    record {
+      past = i.past;
+      rest = i.rest ++ g.more;
+      later = i.later ++ cs;
+      log = g.log ∙ ap (λ (l : List Record). l ++ g.more) i.log ∙ append_assoc (i.past ++ records) i.rest g.more;
+      may = subst (λ (n : ℕ). MayWrite n i.past w.trans.0 t.sets.items) (sym g.pages) i.may;
+      lsn = i.lsn;
+      end = i.end;
+      asked = i.asked;
+      commits = e ∙ ap (λ (x : List Commit). x ++ cs) i.commits ∙ append_assoc (commits_of i.past) (commit_by t w ∷ i.later) cs;
+    }
 
 prepared_on : (mid new : Machine) → Grows mid new → (t : Transaction) (w : Written) → IsPreparedIn mid t w → IsPreparedIn new t w
 prepared_on mid new g t w i =

@@ -1,5 +1,5 @@
 -- When it is unknown whether what is written stays.
-use Rattle.std.proofs.Common.{◌≡◌, ◌<◌, ◌≤◌, ◌+◌, ℕ, Bool, true, false, List, [], ◌∷◌, ◌++◌, ◌⊎◌, refl, sym, ap, subst, ◌∙◌, inl, inr, arith, append_assoc}
+use Rattle.std.proofs.Common.{◌≡◌, ◌<◌, ◌≤◌, ℕ, Bool, true, false, List, [], ◌∷◌, ◌++◌, refl, sym, ap, subst, ◌∙◌, inl, inr, arith, append_assoc}
 use Rattle.std.specs.Prelude.{nat_le, if◌then◌else◌}
 use Rattle.std.specs.List.{AllByRecursion}
 use Rattle.std.proofs.lemmas.Bool.{leb-false}
@@ -24,10 +24,10 @@ use Rattle.als_lead.specs.declared.forced.Forced.{Forced}
 use Rattle.als_lead.specs.declared.forced.Forced.TheVariants as forced
 use Rattle.als_lead.specs.declared.told.Told.{Told}
 use Rattle.als_lead.specs.Going.{Grows}
-use Rattle.als_lead.specs.Answers.{IsIn, IsPreparedIn, IsDecidedIn, IsWritten}
+use Rattle.als_lead.specs.Answers.{IsPreparedIn, IsDecidedIn, IsWritten}
 use Rattle.als_lead.specs.Groups.{IsHeld, IsHeldOf, IsStableTo, IsStableIn, done_by, written_after, refused_after, undecided_after, answer_after, all_after}
 use Rattle.als_lead.specs.Leading.{AllTold}
-use Rattle.als_lead.specs.Confirming.{GoesOn, IsBegun, IsBegunOf, IsOwed, IsDoubted, IsExcused, IsExcusedOf}
+use Rattle.als_lead.specs.Confirming.{GoesOn, IsBegun, IsBegunOf, IsDoubted, IsExcused, IsExcusedOf}
 use Rattle.als_lead.proofs.Going.{grows_refl, grows_trans}
 use Rattle.als_lead.proofs.Confirms.{MissesIn, told_map, told_both}
 
@@ -62,12 +62,12 @@ doubted_short missed machine e lsn (work.Commit t) w lt s h =
 doubted_short missed machine e lsn (work.Prepare t) w lt s h = absurd (omega (arith, lt, s.whole, prepared_end (machine e) t w h))
 doubted_short missed machine e lsn (work.Decide trans verdict) w lt s h = absurd (omega (arith, lt, s.whole, decided_end (machine e) trans verdict w h))
 
-excused_if : {E : Type 0} → (missed : ℕ → Type 0) (machine : E → Machine) (e : E) (lsn : Lsn) (asked : Work) (w : Written) (b : Bool) → nat_le w.end.0 lsn.0 ≡ b
+pub excused_if : {E : Type 0} → (missed : ℕ → Type 0) (machine : E → Machine) (e : E) (lsn : Lsn) (asked : Work) (w : Written) (b : Bool) → nat_le w.end.0 lsn.0 ≡ b
     → IsStableTo (machine e) lsn → IsWritten (machine e) asked w → IsExcused missed machine (machine e) asked (if b then done_by asked w else Unknown w)
 excused_if missed machine e lsn asked w true le s h = excused_done missed machine (machine e) asked w
 excused_if missed machine e lsn asked w false le s h = doubted_short missed machine e lsn asked w (leb-false w.end.0 lsn.0 le) s h
 
-doubted_missed : {E : Type 0} → (missed : ℕ → Type 0) (machine : E → Machine) (m : Machine) (asked : Work) (w : Written) → ((end : ℕ) × missed end) → IsDoubted missed machine m asked w
+pub doubted_missed : {E : Type 0} → (missed : ℕ → Type 0) (machine : E → Machine) (m : Machine) (asked : Work) (w : Written) → ((end : ℕ) × missed end) → IsDoubted missed machine m asked w
 doubted_missed missed machine m (work.Commit t) w h = inl h
 doubted_missed missed machine m (work.Prepare t) w h = h
 doubted_missed missed machine m (work.Decide trans verdict) w h = h

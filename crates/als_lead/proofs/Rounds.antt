@@ -56,6 +56,25 @@ tells_more forced told told_now x answer rest queued a t q =
     ∙ ap (λ (b : Answer). told ++ record { asked = x.asked; answer = b } ∷ all_after forced rest) a
     ∙ ap (λ (l : List Told). told ++ all_after forced l) (sym q)
 
+-- one less of what was taken waits
+pub waits_less : (taken taken_now : List Asked) (told told_now : List Told) (x : Told) (answer : Answer) (rest queued : List Told) → taken_now ≡ taken → told_now ≡ told ++ record { asked = x.asked; answer = answer } ∷ [] → queued ≡ x ∷ rest
+    → taken ≡ asked_of told ++ asked_of queued → taken_now ≡ asked_of told_now ++ asked_of rest
+waits_less taken taken_now told told_now x answer rest queued takes tells q waits =
+    takes ∙ waits
+    ∙ ap (λ (l : List Told). asked_of told ++ asked_of l) q
+    ∙ sym (append_assoc (asked_of told) (x.asked ∷ []) (asked_of rest))
+    ∙ ap (λ (l : List Asked). l ++ asked_of rest) (sym (ap asked_of tells ∙ asked_both told (record { asked = x.asked; answer = answer } ∷ [])))
+
+-- all that was taken is answered, or waits in the group
+pub waits_in_group : (taken taken_now : List Asked) (told told_now : List Told) (queued : List Told) → taken ≡ asked_of told → taken_now ≡ taken ++ asked_of queued → told_now ≡ told → taken_now ≡ asked_of told_now ++ asked_of queued
+waits_in_group taken taken_now told told_now queued fresh takes tells =
+    takes ∙ ap (λ (l : List Asked). l ++ asked_of queued) fresh ∙ ap (λ (l : List Told). asked_of l ++ asked_of queued) (sym tells)
+
+-- all that was taken is answered, also once more was
+pub fresh_on : (alone : Type 0) (old new : Machine) (taken taken_now : List Asked) (told told_now : List Told) → taken ≡ asked_of told → Leads alone old new taken taken_now told told_now → taken_now ≡ asked_of told_now
+fresh_on alone old new taken taken_now told told_now fresh l =
+    l.once ∙ ap (λ (q : List Asked). q ++ asked_of l.more) fresh ∙ sym (ap asked_of l.answered ∙ asked_both told l.more)
+
 -- ---- a group is served
 
 -- what a group did once its log is forced
@@ -92,6 +111,10 @@ pub group_once : (alone : Type 0) (old filled : Machine) (taken taken_mid : List
 group_once alone old filled taken taken_mid queued f =
     let joined : queued ≡ f.more = f.joined in
     f.once ∙ ap (λ (q : List Told). taken ++ asked_of q) (sym joined)
+
+-- while it is filled the engine goes on
+pub group_grows : (alone : Type 0) (old filled : Machine) (taken taken_mid : List Asked) (queued : List Told) → Fills alone old filled taken taken_mid [] queued → alone → Grows old filled
+group_grows alone old filled taken taken_mid queued f a = (f.does a).grows
 
 -- ---- nothing was asked
 

@@ -91,7 +91,7 @@ true_undecided m (Confirmed lsn) s asked r h = elim h [
 true_undecided m Unconfirmed s asked r h = tt
 true_undecided m (Failed f) s asked r h = inr (ended_undecided m asked r f h)
 
-true_after : (m : Machine) (forced : Forced) → IsStableIn forced m → (asked : Work) (a : Answer) → IsHeld m asked a → IsTrueAnswer m asked (answer_after forced asked a)
+pub true_after : (m : Machine) (forced : Forced) → IsStableIn forced m → (asked : Work) (a : Answer) → IsHeld m asked a → IsTrueAnswer m asked (answer_after forced asked a)
 true_after m forced s asked (Committed w) h = true_written m forced s asked w h.1
 true_after m forced s asked (Prepared w) h = true_written m forced s asked w h.1
 true_after m forced s asked (Decided w) h = true_written m forced s asked w h.1

@@ -18,7 +18,7 @@ use Rattle.als_writer.specs.declared.work.Work.TheVariants as work
 use Rattle.als_writer.specs.declared.written.Written.{Written}
 use Rattle.als_writer.specs.Asking.{IsAsked}
 use Rattle.als_writer.specs.Refused.{ShowsFailing}
-use Rattle.als_writer.specs.Committing.{NotWritten}
+use Rattle.als_writer.specs.Committing.{committed, NotWritten}
 use Rattle.als_writer.specs.Preparing.{NotPrepared}
 use Rattle.als_writer.specs.Deciding.{deciding, commits_by, DecisionRefused}
 use Rattle.als_lead.specs.declared.asked.Asked.{Asked}
@@ -33,14 +33,16 @@ use Rattle.als_lead.specs.Going.{Grows}
 abbrev pub commit_by : Transaction → Written → Commit
 commit_by t w = record { trans = w.trans; lsn = w.lsn; writes = t.sets.items }
 
--- A transaction is in the log: each of its asks held of the front that it was written behind, whose end is not above its commit's LSN. And
--- its commit is the next one behind those of that front.
+-- A transaction is in the log: its updates and its commit record at the LSN that is answered, behind a front of which each of its asks held and
+-- behind which it might write them. The end that is answered is where its last record ends, behind the commit; that record may still be owed. Its
+-- commit is the next one behind those of that front.
 pub record IsIn (m : Machine) (t : Transaction) (w : Written) : Type 0 where
   pub past : List Record
   pub rest : List Record
   pub later : List Commit
-  pub log : m.held.log ≡ past ++ rest
-  pub begins : end_of past ≤ w.lsn.0
+  pub log : m.held.log ≡ past ++ committed past w.trans.0 t.sets.items ++ rest
+  pub may : MayWrite m.held.pages past w.trans.0 t.sets.items
+  pub lsn : w.lsn.0 ≡ end_of (past ++ updates past w.trans.0 t.sets.items)
   pub end : w.end.0 ≡ end_of (past ++ transaction past w.trans.0 t.sets.items)
   pub asked : All (λ a. IsAsked past a) t.asks.items
   pub commits : commits_of m.held.log ≡ commits_of past ++ commit_by t w ∷ later

@@ -1,5 +1,5 @@
 -- What enough others hold of the log, and what of it is answered and shown.
-use Rattle.std.specs.Prelude.{◌≡◌, ℕ, ◌<◌, ◌≤◌, ◌⊎◌, Result, Ok}
+use Rattle.std.specs.Prelude.{◌≡◌, ℕ, ◌<◌, ◌≤◌, ◌⊎◌, Result, Ok, Err}
 use Rattle.als_record.specs.declared.lsn.Lsn.{Lsn}
 use Rattle.als_record.specs.LogText.{end_of}
 use Rattle.als_record.specs.Commits.{commits_of}
@@ -37,6 +37,12 @@ IsForcedBy confirmed missed durable (forced.Confirmed lsn) = (durable ≡ Ok lsn
 IsForcedBy confirmed missed durable forced.Unconfirmed = (end : ℕ) × missed end
 IsForcedBy confirmed missed durable (forced.Failed f) = Unit {0}
 
+-- where one of them failed, the force did, or the confirmation
+abbrev pub IsFailedBy : (Fault → Type 0) → Result Lsn Fault → Forced → Type 0
+IsFailedBy failed durable (forced.Confirmed lsn) = Unit {0}
+IsFailedBy failed durable forced.Unconfirmed = Unit {0}
+IsFailedBy failed durable (forced.Failed f) = (durable ≡ Err f) ⊎ failed f
+
 -- neither the force nor the confirmation failed
 abbrev pub GoesOn : Forced → Type 0
 GoesOn (forced.Confirmed lsn) = Unit {0}
@@ -44,6 +50,12 @@ GoesOn forced.Unconfirmed = Unit {0}
 GoesOn (forced.Failed f) = ⊥
 
 -- ---- what readers see
+
+-- what is acknowledged of a log is confirmed, so it may be shown
+abbrev pub IsShowable : Type 0 → (ℕ → Type 0) → Machine → Forced → Type 0
+IsShowable alone confirmed m (forced.Confirmed lsn) = alone → confirmed (acknowledged m.held)
+IsShowable alone confirmed m forced.Unconfirmed = Unit {0}
+IsShowable alone confirmed m (forced.Failed f) = Unit {0}
 
 -- only a log that is confirmed is shown
 abbrev pub PublishesIn : Forced → Machine → Machine → Type 0
@@ -107,6 +119,9 @@ IsBegun (Refused r) = IsForCause r
 IsBegun (NotDecided r) = IsOpenForCause r
 IsBegun (Unknown w) = Unit {0}
 IsBegun _ = ⊥
+
+abbrev pub IsTriedOf : Told → Type 0
+IsTriedOf told = IsTried told.answer
 
 abbrev pub IsBegunOf : Told → Type 0
 IsBegunOf told = IsBegun told.answer

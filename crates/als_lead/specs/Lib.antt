@@ -4,3 +4,6 @@ pub mod Answers
 pub mod Groups
 pub mod Leading
 pub mod Confirming
+pub mod Placed
+pub mod NewDatabases
+pub mod Owed

@@ -1,6 +1,6 @@
 ghost use Rattle.std.specs.Prelude.{◌≡◌, ℕ, true, IfOk, OnOk};
 ghost use Rattle.als_lead.specs.Going.{Grows};
-ghost use Rattle.als_lead.specs.Confirming.{IsForcedBy, GoesOn, PublishesIn, IsWhole, IsShown};
+ghost use Rattle.als_lead.specs.Confirming.{IsForcedBy, IsFailedBy, GoesOn, PublishesIn, IsShowable, IsWhole, IsShown};
 
 use crate::forced::Forced;
 use crate::forcing::make_durable;
@@ -12,8 +12,10 @@ use als_record::Lsn;
 /// The result of a group's force: waits until enough others hold the log.
 pub(crate) fn confirmed<U: Upkeep>(upkeep: &mut U, forced: Result<Lsn, EngineFault>) -> Forced
     ensures by { IsForcedBy (U.confirmed upkeep.new) (U.missed upkeep.new) forced result }
+    ensures failed { IsFailedBy (U.failed upkeep.new) forced result }
     ensures keeps { (n : ℕ) → U.confirmed upkeep.old n → U.confirmed upkeep.new n }
     ensures misses { (n : ℕ) → U.missed upkeep.old n → U.missed upkeep.new n }
+    ensures alike { (other : U) → U.alike other upkeep.old → U.alike other upkeep.new }
 {
     match forced {
         Ok(lsn) => match upkeep.confirm(lsn) {
@@ -31,11 +33,13 @@ pub(crate) fn show<E: Events, U: Upkeep>(
     upkeep: &mut U,
     forced: Forced,
 ) -> Result<(), Fault>
+    requires confirmed { IsShowable E.alone (U.confirmed upkeep.old) (E.machine engine.old) forced }
     ensures publishes { E.alone
         → PublishesIn forced (E.machine engine.old) (E.machine engine.new) }
     ensures goes_on { OnOk result (GoesOn forced) }
     ensures keeps { (n : ℕ) → U.confirmed upkeep.old n → U.confirmed upkeep.new n }
     ensures misses { (n : ℕ) → U.missed upkeep.old n → U.missed upkeep.new n }
+    ensures alike { (other : U) → U.alike other upkeep.old → U.alike other upkeep.new }
     ensures book { E.book engine.new ≡ E.book engine.old }
 {
     match forced {
@@ -63,6 +67,7 @@ pub(crate) fn confirm_earlier<E: Events, U: Upkeep>(
         → IsShown (U.confirmed upkeep.new) (E.machine engine.old) (E.machine engine.new) }
     ensures keeps { (n : ℕ) → U.confirmed upkeep.old n → U.confirmed upkeep.new n }
     ensures misses { (n : ℕ) → U.missed upkeep.old n → U.missed upkeep.new n }
+    ensures alike { (other : U) → U.alike other upkeep.old → U.alike other upkeep.new }
     ensures book { E.book engine.new ≡ E.book engine.old }
 {
     let lsn = make_durable(engine)?;

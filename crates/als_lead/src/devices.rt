@@ -26,27 +26,35 @@ pub(crate) fn open_devices<R: AllocGlobal + Files<File = File> + Wait>(
     made_or_fault(Engine::open(rt.alloc(), rt, disks(devices), config))
 }
 
-/// Makes the engine of a new database, and its readers. The folder gets a primary's role before it gets
-/// the database.
-pub(crate) fn begin<R: AllocGlobal + Files<File = File> + Wait>(
+/// Makes the database of a new primary, of so many pages, with so many blocks for its log. The folder gets a
+/// primary's role before it gets the database: without a role it would be a standby's.
+pub(crate) fn lay_out_in<R: AllocGlobal + Files<File = File> + Wait>(
     rt: &R,
     folder: &Folder,
     vacancy: Vacancy<'_>,
-    config: Config,
+    pages: u64,
     log_blocks: u64,
-) -> Result<(Engine<FileDisk>, Vec<Reader>), Fault> {
-    folder.make_role(rt, Role { epoch: 0 })?;
+) -> Result<(), Fault> {
     let sizes = Sizes {
         log: log_blocks,
         control: CONTROL_BLOCKS,
-        pages: config.pages,
+        pages,
     };
     let mut devices = vacancy.lay_out(rt, sizes)?;
     devices.lock_new()?;
     devices.forget_old_log();
-    let made = made_or_fault(Engine::format(rt.alloc(), rt, disks(devices), config))?;
+    let config = Config {
+        pages,
+        frames: pages,
+        pending: PENDING,
+        readers: 1,
+    };
+    let (engine, readers) = made_or_fault(Engine::format(rt.alloc(), rt, disks(devices), config))?;
+    drop(readers);
+    folder.make_role(rt, Role { epoch: 0 })?;
     folder.keep(rt)?;
-    Ok(made)
+    drop(engine);
+    Ok(())
 }
 
 /// The devices of a folder, for an engine.

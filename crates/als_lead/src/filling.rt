@@ -4,7 +4,7 @@ ghost use Rattle.als_writer.specs.Changes.{AreBounds};
 ghost use Rattle.als_lead.specs.declared.answer.Answer.{Answer as AnyAnswer};
 ghost use Rattle.als_lead.specs.Groups.{Does, Fills};
 ghost use Rattle.als_lead.specs.Leading.{AllTold};
-ghost use Rattle.als_lead.specs.Confirming.{IsTried, IsBegun, IsBegunOf};
+ghost use Rattle.als_lead.specs.Confirming.{IsTried, IsTriedOf, IsBegun, IsBegunOf};
 
 use crate::answer::Answer;
 use crate::asked::Asked;
@@ -33,6 +33,7 @@ pub(crate) fn fill<E: Writes, C: Clients>(
     ensures fills { Fills E.alone (E.machine engine.old) (E.machine engine.new)
         (C.taken clients.old) (C.taken clients.new) queue.old.items queue.new.items }
     ensures begun { OnOk result (AllTold IsBegunOf queue.old.items queue.new.items) }
+    ensures tried { AllTold IsTriedOf queue.old.items queue.new.items }
     ensures told { C.told clients.new ≡ C.told clients.old }
     ensures bounds { E.alone → AreBounds changes.new (E.machine engine.new).held.pages
         (E.machine engine.new).held.log }
@@ -68,6 +69,7 @@ fn take<E: Writes>(
         ++ record { asked = asked; answer = answer } ∷ []) × (E.alone
         → Does (E.machine engine.old) asked.work answer (E.machine engine.new)) }
     ensures begun { OnOk result (AllTold IsBegunOf queue.old.items queue.new.items) }
+    ensures tried { AllTold IsTriedOf queue.old.items queue.new.items }
     ensures bounds { E.alone → AreBounds changes.new (E.machine engine.new).held.pages
         (E.machine engine.new).held.log }
     ensures book { E.book engine.new ≡ E.book engine.old }

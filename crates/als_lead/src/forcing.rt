@@ -1,7 +1,8 @@
-ghost use Rattle.std.specs.Prelude.{◌≡◌, IfOk};
+ghost use Rattle.std.specs.Prelude.{◌≡◌, IfOk, IfErr};
 ghost use Rattle.als_store.specs.Stored.{acknowledged};
 ghost use Rattle.als_lead.specs.Going.{Stays};
 ghost use Rattle.als_lead.specs.Groups.{IsStableTo};
+ghost use Rattle.als_lead.specs.Owed.{IsNotForced};
 
 use als_engine::{Events, Fault};
 use als_record::Lsn;
@@ -9,12 +10,14 @@ use als_record::Lsn;
 /// Makes the log durable to its end, if it is not, and returns the acknowledged LSN.
 ///
 /// NotDrained: the log is not acknowledged to its end after a force. No test has met that.
-#[tactic(auto, using(crate::proofs::Going::stays_refl, crate::proofs::Going::stable_to))]
+#[tactic(auto, using(crate::proofs::Going::stays_refl, crate::proofs::Going::stable_to, crate::proofs::Failing::not_drained))]
 pub(crate) fn make_durable<E: Events>(engine: &mut E) -> Result<Lsn, Fault>
     ensures stays { E.alone → Stays (E.machine engine.old) (E.machine engine.new) }
     ensures stable { IfOk result (λ lsn. E.alone → IsStableTo (E.machine engine.new) lsn) }
     ensures exact { IfOk result (λ lsn. E.alone
         → lsn.0 ≡ acknowledged (E.machine engine.new).held) }
+    ensures refused { IfErr result (λ f. E.alone
+        → IsNotForced E E.machine (E.machine engine.old) f) }
     ensures book { E.book engine.new ≡ E.book engine.old }
 {
     let before = engine.status();
@@ -30,9 +33,11 @@ pub(crate) fn make_durable<E: Events>(engine: &mut E) -> Result<Lsn, Fault>
 }
 
 /// Writes the log, syncs it, writes its mark and syncs the control block.
-#[tactic(auto, using(crate::proofs::Going::stays_trans))]
+#[tactic(auto, using(crate::proofs::Going::stays_trans, crate::proofs::Failing::not_forced_stays, crate::proofs::Failing::not_drained))]
 fn force<E: Events>(engine: &mut E) -> Result<(), Fault>
     ensures stays { E.alone → Stays (E.machine engine.old) (E.machine engine.new) }
+    ensures refused { IfErr result (λ f. E.alone
+        → IsNotForced E E.machine (E.machine engine.old) f) }
     ensures book { E.book engine.new ≡ E.book engine.old }
 {
     write_log(engine)?;
@@ -42,9 +47,11 @@ fn force<E: Events>(engine: &mut E) -> Result<(), Fault>
 }
 
 /// Writes the unwritten blocks of the log.
-#[tactic(auto, using(crate::proofs::Going::stays_trans))]
+#[tactic(auto, using(crate::proofs::Going::stays_trans, crate::proofs::Failing::not_forced_stays, crate::proofs::Failing::not_drained))]
 fn write_log<E: Events>(engine: &mut E) -> Result<(), Fault>
     ensures stays { E.alone → Stays (E.machine engine.old) (E.machine engine.new) }
+    ensures refused { IfErr result (λ f. E.alone
+        → IsNotForced E E.machine (E.machine engine.old) f) }
     ensures book { E.book engine.new ≡ E.book engine.old }
 {
     for _ in 0..u64::MAX {
@@ -57,9 +64,11 @@ fn write_log<E: Events>(engine: &mut E) -> Result<(), Fault>
 }
 
 /// Writes the next block of the log. Returns whether there was one.
-#[tactic(auto, using(crate::proofs::Going::stays_log_write))]
+#[tactic(auto, using(crate::proofs::Going::stays_log_write, crate::proofs::Failing::not_forced_log_write))]
 fn write_block<E: Events>(engine: &mut E) -> Result<bool, Fault>
     ensures stays { E.alone → Stays (E.machine engine.old) (E.machine engine.new) }
+    ensures refused { IfErr result (λ f. E.alone
+        → IsNotForced E E.machine (E.machine engine.old) f) }
     ensures book { E.book engine.new ≡ E.book engine.old }
 {
     match engine.log_write() {
@@ -70,9 +79,11 @@ fn write_block<E: Events>(engine: &mut E) -> Result<bool, Fault>
 }
 
 /// Syncs the log.
-#[tactic(auto, using(crate::proofs::Going::stays_log_sync))]
+#[tactic(auto, using(crate::proofs::Going::stays_log_sync, crate::proofs::Failing::not_forced_log_sync))]
 fn sync_log<E: Events>(engine: &mut E) -> Result<(), Fault>
     ensures stays { E.alone → Stays (E.machine engine.old) (E.machine engine.new) }
+    ensures refused { IfErr result (λ f. E.alone
+        → IsNotForced E E.machine (E.machine engine.old) f) }
     ensures book { E.book engine.new ≡ E.book engine.old }
 {
     match engine.log_sync() {
@@ -82,9 +93,11 @@ fn sync_log<E: Events>(engine: &mut E) -> Result<(), Fault>
 }
 
 /// Writes the control block with the log's synced end as its mark, if that has risen.
-#[tactic(auto, using(crate::proofs::Going::stays_mark_write))]
+#[tactic(auto, using(crate::proofs::Going::stays_mark_write, crate::proofs::Failing::not_forced_mark_write))]
 fn write_mark<E: Events>(engine: &mut E) -> Result<(), Fault>
     ensures stays { E.alone → Stays (E.machine engine.old) (E.machine engine.new) }
+    ensures refused { IfErr result (λ f. E.alone
+        → IsNotForced E E.machine (E.machine engine.old) f) }
     ensures book { E.book engine.new ≡ E.book engine.old }
 {
     match engine.mark_write() {
@@ -95,9 +108,11 @@ fn write_mark<E: Events>(engine: &mut E) -> Result<(), Fault>
 }
 
 /// Syncs the control block.
-#[tactic(auto, using(crate::proofs::Going::stays_ctl_sync))]
+#[tactic(auto, using(crate::proofs::Going::stays_ctl_sync, crate::proofs::Failing::not_forced_ctl_sync))]
 pub(crate) fn sync_control<E: Events>(engine: &mut E) -> Result<(), Fault>
     ensures stays { E.alone → Stays (E.machine engine.old) (E.machine engine.new) }
+    ensures refused { IfErr result (λ f. E.alone
+        → IsNotForced E E.machine (E.machine engine.old) f) }
     ensures book { E.book engine.new ≡ E.book engine.old }
 {
     match engine.ctl_sync() {

@@ -63,6 +63,8 @@ impl<R: Wait> Upkeep for PrimaryUpkeep<'_, R> {
 
     ghost missed = { λ upkeep n. ⊥ };
 
+    ghost failed = { λ upkeep f. ⊥ };
+
     #[tactic(auto, using(crate::proofs::Going::publishes_view))]
     fn publish<E: Events>(&mut self, engine: &mut E) -> Result<(), Fault> {
         match engine.publish_view(self.rt) {

@@ -2,6 +2,8 @@ ghost use Rattle.std.specs.Prelude.{◌≡◌, ℕ, [], IfOk, OnOk};
 ghost use Rattle.als_writer.specs.Changes.{AreBounds};
 ghost use Rattle.als_lead.specs.Going.{Stays};
 ghost use Rattle.als_lead.specs.Leading.{Leads, AllTold};
+ghost use Rattle.als_lead.specs.Answers.{asked_of};
+ghost use Rattle.als_lead.specs.Owed.{Owes};
 ghost use Rattle.als_lead.specs.Confirming.{IsShown, IsConfirmedOf, IsCarriedOut, IsExcusedOf};
 
 use crate::clients::{Clients, Waited};
@@ -28,6 +30,11 @@ pub fn lead<E: Writes, C: Clients, U: Upkeep>(
     upkeep: &mut U,
     limits: Limits,
 ) -> Result<(), Fault>
+    // All that was taken was answered. Whatever is true of the machine, is confirmed and has its cause may
+    // be told, so nothing else ever is.
+    requires fresh { C.taken clients.old ≡ asked_of (C.told clients.old) }
+    requires owed { Owes E.alone E.machine U.confirmed U.missed U.alike U.failed engine.old
+        upkeep.old C.may_tell }
     // However it ends: what was taken is answered once, in order, to its own seat. The log's commits are
     // the old ones and those that were answered. Each answer is true of the log.
     ensures leads { Leads E.alone (E.machine engine.old) (E.machine engine.new)
@@ -94,6 +101,9 @@ fn round<E: Writes, C: Clients, U: Upkeep>(
     requires bounded { E.alone → AreBounds changes.old (E.machine engine.old).held.pages
         (E.machine engine.old).held.log }
     requires empty { queue.old.items ≡ [] }
+    requires fresh { C.taken clients.old ≡ asked_of (C.told clients.old) }
+    requires owed { Owes E.alone E.machine U.confirmed U.missed U.alike U.failed engine.old
+        upkeep.old C.may_tell }
     ensures leads { Leads E.alone (E.machine engine.old) (E.machine engine.new)
         (C.taken clients.old) (C.taken clients.new) (C.told clients.old) (C.told clients.new) }
     ensures confirmed { E.alone
@@ -108,6 +118,7 @@ fn round<E: Writes, C: Clients, U: Upkeep>(
         → IsShown (U.confirmed upkeep.new) (E.machine engine.old) (E.machine engine.new) }
     ensures keeps { (n : ℕ) → U.confirmed upkeep.old n → U.confirmed upkeep.new n }
     ensures misses { (n : ℕ) → U.missed upkeep.old n → U.missed upkeep.new n }
+    ensures alike { (other : U) → U.alike other upkeep.old → U.alike other upkeep.new }
     ensures emptied { queue.new.items ≡ [] }
     ensures bounds { E.alone → AreBounds changes.new (E.machine engine.new).held.pages
         (E.machine engine.new).held.log }
@@ -137,6 +148,7 @@ fn pause<E: Writes, C: Clients, U: Upkeep>(
     ensures told { C.told clients.new ≡ C.told clients.old }
     ensures keeps { (n : ℕ) → U.confirmed upkeep.old n → U.confirmed upkeep.new n }
     ensures misses { (n : ℕ) → U.missed upkeep.old n → U.missed upkeep.new n }
+    ensures alike { (other : U) → U.alike other upkeep.old → U.alike other upkeep.new }
     ensures book { E.book engine.new ≡ E.book engine.old }
 {
     match clients.wait()? {
@@ -150,6 +162,7 @@ fn rest<E: Writes, U: Upkeep>(engine: &mut E, upkeep: &mut U) -> Result<bool, Fa
     ensures stays { E.alone → Stays (E.machine engine.old) (E.machine engine.new) }
     ensures keeps { (n : ℕ) → U.confirmed upkeep.old n → U.confirmed upkeep.new n }
     ensures misses { (n : ℕ) → U.missed upkeep.old n → U.missed upkeep.new n }
+    ensures alike { (other : U) → U.alike other upkeep.old → U.alike other upkeep.new }
     ensures book { E.book engine.new ≡ E.book engine.old }
 {
     upkeep.keep_up(engine)?;

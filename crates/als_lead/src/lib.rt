@@ -20,6 +20,8 @@
 //! 6. What an earlier work owes to the log is written before the next one, and before the force.
 //! 7. A work is a transaction that commits, one that prepares, or the decision of one in doubt. Each kind
 //!    has its own answer.
+//! 8. Each answer is owed when it is told, whether the leader ever returns or not: `tell` requires that it may
+//!    be told, and `lead` that whatever is due may be.
 #![tactic(auto)]
 
 // What is asked for, and the seat that its answer goes to.
@@ -59,13 +61,19 @@ mod laws;
 mod devices;
 // The folder of a primary.
 mod opening;
+// The folder of a new primary.
+mod laying_out;
 
 pub use account::Account;
 pub use answer::Answer;
 pub use asked::Asked;
 pub use clients::{Clients, Waited};
 pub use keeping_up::PrimaryUpkeep;
-pub use laws::{a_decision_commits_what_was_prepared, a_true_answer_stays_true};
+pub use laws::{
+    a_decision_commits_what_was_prepared, a_true_answer_stays_true,
+    an_answered_commit_is_in_the_log,
+};
+pub use laying_out::{NewDatabase, lay_out};
 pub use leading::lead;
 pub use limits::Limits;
 pub use opening::{Database, Primary, open};

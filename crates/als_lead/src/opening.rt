@@ -1,9 +1,13 @@
-use crate::devices::{begin, open_devices};
+ghost use Rattle.std.specs.Prelude.{◌≡◌, ◌≢◌, ◌≤◌, ◌<◌, ◌/◌, Ok, None, OnOk, IfErr, IfSome};
+ghost use Rattle.als_engine.specs.declared.fault.Fault.TheVariants.{BadConfig, BadControl};
+ghost use Rattle.als_operate.specs.declared.fault.Fault.TheVariants.{Refused};
+
+use crate::devices::open_devices;
 use als_ckpt::{Fault as ControlFault, Phase, follow_again, read_state};
 use als_disk::{BlockDisk, FileDisk};
 use als_drive::{Progress, recover_telling};
 use als_engine::{Config, Engine, Fault as EngineFault, LOG_BLOCK_LIMIT, Reader};
-use als_folder::{Folder, Found, Role};
+use als_folder::{Fault as FolderFault, Folder, Found, Part, Role, Trouble, Wrong};
 use als_operate::{Extent, Fault, PENDING, check_pages_fit, extent_of, named};
 use als_ship::force;
 use als_writer::{Refusal, tidy};
@@ -16,10 +20,10 @@ use std::sync::Wait;
 pub struct Database<'a> {
     /// The folder of the primary's database.
     pub dir: &'a str,
-    /// Pages of a new database, 1 to 4,096.
+    /// Pages that it has to have, 1 to 4,096. None: as many as it has.
     pub pages: Option<u64>,
-    /// Blocks of the log device of a new database, 1 to 4,194,304.
-    pub log_blocks: u64,
+    /// Blocks that its log device has to have at least, 1 to 4,194,304. None: as many as it has.
+    pub log_blocks: Option<u64>,
     /// The readers of its view, 1 to 8.
     pub readers: u64,
 }
@@ -34,11 +38,12 @@ pub struct Primary {
 /// An engine and the readers of its view.
 type Opened = (Engine<FileDisk>, Vec<Reader>);
 
-/// Opens the folder of a primary, or makes a new database in it.
+/// Opens the folder of a primary. It makes no database.
 ///
-/// BadConfig: there is no database, and no page count for a new one, or a number is out of its range.
-/// BadControl: the database has another number of pages than is given. NotPrimary: it is a standby's folder. Sealed: a takeover has not finished. Device: the folder or one of
-/// its files failed, or another program has it. Memory: allocation failed. Else as for `Engine::open`.
+/// BadConfig: a number is out of its range, or the log device has fewer blocks than are given. BadControl:
+/// the database has another number of pages than is given. NotPrimary: it is a standby's folder. Sealed: a
+/// takeover has not finished. Device: the folder or one of its files failed, another program has it, or it
+/// has no database: nothing was touched then. Memory: allocation failed. Else as for `Engine::open`.
 pub fn open<R: AllocGlobal + Files<File = File> + Wait, P: Progress>(
     rt: &R,
     database: Database<'_>,
@@ -63,7 +68,7 @@ fn open_in<R: AllocGlobal + Files<File = File> + Wait, P: Progress>(
     database: Database<'_>,
     progress: &mut P,
 ) -> Result<Opened, Fault> {
-    let (mut engine, readers) = open_or_begin(rt, folder, database)?;
+    let (mut engine, readers) = open_found(rt, folder, database)?;
     recover_telling(rt, &mut engine, progress)?;
     match tidy(rt.alloc(), &mut engine) {
         Ok(()) => {}
@@ -73,8 +78,8 @@ fn open_in<R: AllocGlobal + Files<File = File> + Wait, P: Progress>(
     Ok((engine, readers))
 }
 
-/// Opens the engine of a folder's database, or makes a new one.
-fn open_or_begin<R: AllocGlobal + Files<File = File> + Wait>(
+/// Opens the engine of a folder's database.
+fn open_found<R: AllocGlobal + Files<File = File> + Wait>(
     rt: &R,
     folder: &Folder,
     database: Database<'_>,
@@ -82,21 +87,26 @@ fn open_or_begin<R: AllocGlobal + Files<File = File> + Wait>(
     match folder.find(rt)? {
         Found::Kept => {
             check_pages_fit(rt, folder)?;
-            check_pages_given(rt, folder, database.pages)?;
+            check_sizes_given(rt, folder, database)?;
             follow_own_log(rt, folder)?;
             open_devices(rt, folder, database.readers)
         }
-        Found::Vacant(vacancy) => {
-            let config = config_of(database)?;
-            begin(rt, folder, vacancy, config, database.log_blocks)
-        }
+        Found::Vacant(_) => Err(vacant()),
     }
+}
+
+/// The folder has no database.
+fn vacant() -> Fault {
+    Fault::Folder(FolderFault::Device(Trouble {
+        part: Part::Control,
+        wrong: Wrong::Missing,
+    }))
 }
 
 /// Refuses numbers that are out of range, before a file is touched: BadConfig.
 fn check_numbers(database: Database<'_>) -> Result<(), Fault> {
     let pages = database.pages.unwrap_or(1);
-    let has_blocks = (1..=LOG_BLOCK_LIMIT).contains(&database.log_blocks);
+    let has_blocks = (1..=LOG_BLOCK_LIMIT).contains(&database.log_blocks.unwrap_or(1));
     if has_blocks && config_with(database, pages).is_valid() {
         Ok(())
     } else {
@@ -104,32 +114,51 @@ fn check_numbers(database: Database<'_>) -> Result<(), Fault> {
     }
 }
 
-/// Refuses a page count that is not that of the folder's log: BadControl. Where the log's header can't be read, it
-/// is refused later.
-fn check_pages_given<R: AllocGlobal + Files<File = File>>(
+/// Refuses a page count that is not that of the folder's log, and a log device that has fewer blocks than are
+/// given. Where the log's header can't be read, it is refused later.
+fn check_sizes_given<R: AllocGlobal + Files<File = File>>(
     rt: &R,
     folder: &Folder,
-    given: Option<u64>,
+    database: Database<'_>,
 ) -> Result<(), Fault> {
-    let (Some(given), Some(extent)) = (given, extent_of(rt, folder)?) else {
+    let Some(extent) = extent_of(rt, folder)? else {
         return Ok(());
     };
-    if u64::from(extent.pages) == given {
-        Ok(())
-    } else {
-        Err(Fault::Refused(EngineFault::BadControl))
+    check_pages_given(extent, database.pages)?;
+    check_blocks_given(extent, database.log_blocks)
+}
+
+/// Refuses another number of pages than is given: BadControl.
+fn check_pages_given(extent: Extent, given: Option<u64>) -> Result<(), Fault>
+    ensures right { OnOk result (IfSome given (λ pages. extent.pages ≡ pages)) }
+    ensures wrong { IfErr result (λ fault. (fault ≡ Refused BadControl)
+        × IfSome given (λ pages. extent.pages ≢ pages)) }
+    ensures free { given ≡ None → result ≡ Ok tt }
+{
+    match given {
+        Some(pages) if pages != u64::from(extent.pages) => {
+            Err(Fault::Refused(EngineFault::BadControl))
+        }
+        Some(_) | None => Ok(()),
     }
 }
 
-/// The configuration of a new database. BadConfig: there is no page count.
-fn config_of(database: Database<'_>) -> Result<Config, Fault> {
-    match database.pages {
-        Some(pages) => Ok(config_with(database, pages)),
-        None => Err(Fault::Refused(EngineFault::BadConfig)),
+/// Refuses fewer blocks than are given: BadConfig.
+fn check_blocks_given(extent: Extent, given: Option<u64>) -> Result<(), Fault>
+    ensures right { OnOk result (IfSome given (λ blocks. blocks ≤ extent.log_bytes / 512)) }
+    ensures wrong { IfErr result (λ fault. (fault ≡ Refused BadConfig)
+        × IfSome given (λ blocks. extent.log_bytes / 512 < blocks)) }
+    ensures free { given ≡ None → result ≡ Ok tt }
+{
+    match given {
+        Some(blocks) if blocks > extent.log_bytes / 512 => {
+            Err(Fault::Refused(EngineFault::BadConfig))
+        }
+        Some(_) | None => Ok(()),
     }
 }
 
-/// The configuration of a database with this many pages.
+/// The configuration of a database of this many pages.
 fn config_with(database: Database<'_>, pages: u64) -> Config {
     Config {
         pages,

@@ -2,6 +2,8 @@ ghost use Rattle.std.specs.Prelude.{◌≡◌, ◌++◌, ℕ, [], OnOk};
 ghost use Rattle.als_writer.specs.Changes.{AreBounds};
 ghost use Rattle.als_lead.specs.Leading.{Leads, AllTold};
 ghost use Rattle.als_lead.specs.Going.{Tidies};
+ghost use Rattle.als_lead.specs.Answers.{asked_of};
+ghost use Rattle.als_lead.specs.Owed.{Owes};
 ghost use Rattle.als_lead.specs.Confirming.{IsWhole, IsShown, IsConfirmedOf, IsCarriedOut, IsExcusedOf};
 
 use crate::clients::Clients;
@@ -34,6 +36,9 @@ pub(crate) fn serve<E: Writes, C: Clients, U: Upkeep>(
     requires bounded { E.alone → AreBounds changes.old (E.machine engine.old).held.pages
         (E.machine engine.old).held.log }
     requires empty { queue.old.items ≡ [] }
+    requires fresh { C.taken clients.old ≡ asked_of (C.told clients.old) }
+    requires owed { Owes E.alone E.machine U.confirmed U.missed U.alike U.failed engine.old
+        upkeep.old C.may_tell }
     ensures leads { Leads E.alone (E.machine engine.old) (E.machine engine.new)
         (C.taken clients.old) (C.taken clients.new) (C.told clients.old) (C.told clients.new) }
     ensures confirmed { E.alone
@@ -48,6 +53,7 @@ pub(crate) fn serve<E: Writes, C: Clients, U: Upkeep>(
         → IsShown (U.confirmed upkeep.new) (E.machine engine.old) (E.machine engine.new) }
     ensures keeps { (n : ℕ) → U.confirmed upkeep.old n → U.confirmed upkeep.new n }
     ensures misses { (n : ℕ) → U.missed upkeep.old n → U.missed upkeep.new n }
+    ensures alike { (other : U) → U.alike other upkeep.old → U.alike other upkeep.new }
     ensures emptied { queue.new.items ≡ [] }
     ensures bounds { E.alone → AreBounds changes.new (E.machine engine.new).held.pages
         (E.machine engine.new).held.log }

@@ -1,6 +1,7 @@
 ghost use Rattle.std.specs.Prelude.{◌≡◌, ◌++◌, [], OnOk, IsOk};
-ghost use Rattle.std.specs.VecDeque.{deque_capacity};
+ghost use Rattle.std.specs.List.{AllByRecursion};
 ghost use Rattle.als_lead.specs.declared.forced.Forced.TheVariants.{Confirmed, Unconfirmed, Failed};
+ghost use Rattle.als_lead.specs.Answers.{asked_of};
 ghost use Rattle.als_lead.specs.Groups.{done_by, answer_after, all_after};
 
 use crate::answer::Answer;
@@ -20,6 +21,10 @@ pub(crate) fn tell_all<C: Clients>(
     queue: &mut VecDeque<Told>,
     forced: Forced,
 ) -> Result<(), Fault>
+    requires owed { AllByRecursion (λ x. C.may_tell x.asked
+        (answer_after forced x.asked.work x.answer)) queue.old.items }
+    requires waiting { C.taken clients.old ≡ asked_of (C.told clients.old)
+        ++ asked_of queue.old.items }
     ensures told { C.told clients.new ≡ C.told clients.old ++ all_after forced queue.old.items }
     ensures taken { C.taken clients.new ≡ C.taken clients.old }
     ensures emptied { queue.new.items ≡ [] }

@@ -1,6 +1,8 @@
-mod FrontLaws
-mod JudgeLaws
+pub mod DoubtLaws
+pub mod FrontLaws
+pub mod JudgeLaws
 mod SeenLaws
-mod StepLaws
+pub mod StepLaws
 mod Taken
 mod FindLaws
+mod PastLaws

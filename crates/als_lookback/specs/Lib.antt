@@ -1,3 +1,4 @@
+pub mod Doubts
 pub mod FaultNames
 pub mod Fronts
 pub mod Growing
@@ -7,3 +8,4 @@ pub mod Refusals
 pub mod Seen
 pub mod Standing
 pub mod Reach
+pub mod Past

@@ -6,7 +6,7 @@ use Rattle.als_record.specs.declared.record.Record.{Record}
 use Rattle.als_record.specs.LogText.{log_text, end_of}
 use Rattle.als_record.specs.Spelling.{Image}
 use Rattle.als_record.specs.Transactions.{is_commit}
-use Rattle.als_record.specs.Commits.{Commit, commits_of}
+use Rattle.als_record.specs.Commits.{Commit, Write, commits_of}
 use Rattle.als_record.specs.Validity.{IsValidLog}
 use Rattle.als_commits.specs.Counting.{last_of}
 use Rattle.als_view.specs.Images.{AreImagesAfter, written_by}
@@ -30,6 +30,15 @@ pub record IsSeenOf (seen : Seen) (pages : ℕ) (log : List Record) : Type 0 whe
   pub images_are : AreImagesAfter seen.images pages (commits_of log)
   pub commits_are : seen.commits ≡ length (commits_of log)
   pub last_is : seen.last ≡ last_of (commits_of log)
+
+-- the images are those that these commits leave, whatever is counted beside
+pub record HasImages (seen : Seen) (pages : ℕ) (commits : List Commit) : Type 0 where
+  pub pages_are : seen.pages ≡ pages
+  pub images_are : AreImagesAfter seen.images pages commits
+
+-- a commit of one write alone
+abbrev pub commit_of : Write → Commit
+commit_of w = record { trans = record { 0 = 0 }; lsn = record { 0 = 0 }; writes = w ∷ [] }
 
 -- and one more commit
 abbrev pub with_commit : Seen → Commit → Seen

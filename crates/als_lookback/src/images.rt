@@ -25,7 +25,7 @@ pub(crate) fn unwritten(alloc: Global, pages: u32) -> Result<Vec<KeptImage>, All
 }
 
 /// Gives a key its image. A key outside the database has none.
-fn write_one(images: &mut Vec<KeptImage>, write: &Write)
+pub(crate) fn write_one(images: &mut Vec<KeptImage>, write: &Write)
     ensures { images.new.items ≡ written images.old.items write.now }
 {
     let at = place(write.key);

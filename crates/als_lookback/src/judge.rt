@@ -14,6 +14,7 @@ ghost use Rattle.als_lookback.specs.Judged.{Judged, begun, position_of, reading_
 ghost use Rattle.als_lookback.specs.Refusals.{IsCauseAt, RefusesIn};
 ghost use Rattle.als_lookback.specs.Standing.{IsStandingOf};
 
+use crate::doubt::doubts_of;
 use crate::fault::Fault;
 use crate::standing::{Standing, copied};
 use crate::taking::TakeRecord;
@@ -27,7 +28,7 @@ use std::marker::Model;
 
 /// A valid log of which the bytes come in pieces. It keeps no record: what a validator knows of
 /// them, and the bytes of those that are not taken yet.
-pub(crate) struct Judge {
+pub struct Judge {
     receiver: Receiver,
     validator: Validator,
     history: History,
@@ -100,7 +101,7 @@ fn ends_within(until: Until, at: Lsn, len: usize) -> bool
 
 impl Judge {
     /// A judge of a log of which the header was read.
-    pub(crate) fn new(alloc: Global, pages: u32) -> Result<Judge, Fault>
+    pub fn new(alloc: Global, pages: u32) -> Result<Judge, Fault>
         ensures ok { IfOk result (λ j. j ≡ begun pages) }
         ensures err { IfErr result (λ fault. fault ≡ OutOfMemory) }
     {
@@ -114,7 +115,7 @@ impl Judge {
 
     /// The offset of the byte that comes next.
     #[inline]
-    pub(crate) fn position(&self) -> u64
+    pub fn position(&self) -> u64
         ensures { result ≡ position_of self.now }
     {
         self.receiver.position()
@@ -122,36 +123,38 @@ impl Judge {
 
     /// The offset behind the records judged.
     #[inline]
-    pub(crate) fn end(&self) -> Lsn
+    pub fn end(&self) -> Lsn
         ensures { result.0 ≡ end_of self.now.log }
     {
         self.receiver.next_lsn()
     }
 
     /// Where the log ends, and what it leaves open there.
-    pub(crate) fn standing(&self, alloc: Global) -> Result<Standing, AllocError>
+    pub fn standing(&self, alloc: Global) -> Result<Standing, AllocError>
         ensures { IfOk result (λ s. IsStandingOf s self.now.log) }
     {
         let rows = copied(alloc, self.validator.rows())?;
+        let doubts = doubts_of(alloc, &self.validator)?;
         Ok(Standing {
             end: self.end(),
             reserve: self.validator.reserve_bytes(),
             greatest: self.validator.greatest(),
             rows,
+            doubts,
         })
     }
 
     /// Whether fewer bytes have come than the longest record has. If not, the next record wants no
     /// more.
     #[inline]
-    pub(crate) fn is_short(&self) -> bool
+    pub fn is_short(&self) -> bool
         ensures { result ≡ false → reading_of self.now ≢ Ok None }
     {
         self.receiver.partial() < RECORD_LIMIT
     }
 
     /// Takes the next bytes.
-    pub(crate) fn push(&mut self, piece: &[u8]) -> Result<(), AllocError>
+    pub fn push(&mut self, piece: &[u8]) -> Result<(), AllocError>
         requires { position_of self.old + length piece.now < 2 ^ 64 }
         ensures ok { OnOk result (self.new
             ≡ record self.old { kept = self.old.kept ++ piece.now }) }
@@ -180,7 +183,7 @@ impl Judge {
     /// Judges the next record, and hands it to a taker where it may follow and ends where the look
     /// may go on. Whether there was one is answered. No more bytes come for it.
     #[inline(always)]
-    pub(crate) fn hand_to<T: TakeRecord>(
+    pub fn hand_to<T: TakeRecord>(
         &mut self,
         alloc: Global,
         until: Until,

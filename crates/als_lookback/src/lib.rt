@@ -36,12 +36,16 @@ mod cutting;
 mod images;
 // What the commits of a log left.
 mod seen;
+// A transaction in doubt, and what it wrote.
+mod doubt;
 // What a log leaves open.
 mod standing;
 // What the commits up to an LSN left.
 mod looking;
 // Where a transaction committed.
 mod finding;
+// The commits from an LSN on, counted.
+mod past;
 // The commits as lines.
 mod listing;
 // A log file or a folder, opened.
@@ -53,11 +57,15 @@ mod growing;
 
 pub use commands::{commit_of, commits, cut, get, show, status};
 pub use cutting::cut_log;
+pub use doubt::Doubt;
 pub use fault::Fault;
 pub use finding::find_commit;
 pub use growing::{BLOCKS_LIMIT, grow};
+pub use judge::Judge;
 pub use looking::{look_back, look_over};
+pub use past::{CommitAt, NAMED_LIMIT, PastCommits, past_commits};
 pub use seen::Seen;
 pub use source::{Source, log_path, open};
 pub use standing::Standing;
+pub use taking::TakeRecord;
 pub use until::Until;

@@ -1,13 +1,13 @@
-ghost use Rattle.std.specs.Prelude.{◌≡◌, ◌&&◌, ℕ, nat_lt, List, [], None, IfOk, IfErr, OnOk, if◌then◌else◌};
+ghost use Rattle.std.specs.Prelude.{◌≡◌, ◌&&◌, ℕ, nat_lt, List, [], ◌∷◌, ◌++◌, None, IfOk, IfErr, OnOk, if◌then◌else◌};
 ghost use Rattle.als_record.specs.declared.record.Record.{Record as AnyRecord};
-ghost use Rattle.als_record.specs.Commits.{commits_of, seen_after};
+ghost use Rattle.als_record.specs.Commits.{Commit as AnyCommit, commits_of, seen_after};
 ghost use Rattle.als_lookback.specs.Refusals.{IsOfTaker};
-ghost use Rattle.als_lookback.specs.Seen.{IsSeenOf, with_commit};
+ghost use Rattle.als_lookback.specs.Seen.{IsSeenOf, HasImages, commit_of, with_commit};
 
 use crate::fault::Fault;
-use crate::images::{place, unwritten, write_commit};
+use crate::images::{place, unwritten, write_commit, write_one};
 use crate::taking::TakeRecord;
-use als_commits::Commit;
+use als_commits::{Commit, Write};
 use als_record::{Image, KeptImage, Key, Lsn, RecordView, SLOT_COUNT};
 use als_validator::Validator;
 use std::alloc::{AllocError, Global};
@@ -87,14 +87,26 @@ impl Seen {
 
     /// What a key has after them. A key outside the database has nothing.
     pub fn value(&self, key: Key) -> Image
-        ensures { (pages : ℕ) (log : List AnyRecord) → IsSeenOf self.now pages log
+        ensures seen { (pages : ℕ) (log : List AnyRecord) → IsSeenOf self.now pages log
             → result ≡ (if nat_lt key.page pages && nat_lt key.slot 15 then seen_after
             (commits_of log) key else None) }
+        ensures put { (pages : ℕ) (commits : List AnyCommit) → HasImages self.now pages commits
+            → result ≡ (if nat_lt key.page pages && nat_lt key.slot 15 then seen_after commits key
+            else None) }
     {
         if key.page >= self.pages || key.slot as usize >= SLOT_COUNT {
             return None;
         }
         self.images[place(key)].image()
+    }
+
+    /// Gives a key an image, as a commit of this write would, which is not counted. A key outside the
+    /// database gets none.
+    pub fn put(&mut self, write: &Write)
+        ensures { (pages : ℕ) (commits : List AnyCommit) → HasImages self.old pages commits
+            → HasImages self.new pages (commits ++ commit_of write.now ∷ []) }
+    {
+        write_one(&mut self.images, write);
     }
 
     /// One more commit. Stream: there are more than any log has.

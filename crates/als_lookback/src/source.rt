@@ -7,6 +7,7 @@ use crate::fault::Fault;
 use crate::until::Until;
 use als_ckpt::read_state;
 use als_disk::{BlockDisk, DeviceError, MemDisk};
+use als_epochs::History;
 use als_folder::{DeviceFiles, Fault as FolderFault, Folder, LOG_LIMIT, Part, Trouble, Wrong};
 use als_record::{BLOCK_LEN, LogHeader, Lsn};
 use std::alloc::{AllocError, Global};
@@ -21,6 +22,8 @@ pub struct Source {
     reader: Take<File>,
     /// How many bytes that are.
     pub(crate) end: u64,
+    /// The takeovers before the node whose log it is. A file tells of none.
+    history: History,
     /// The folder, held as long as it is read.
     folder: Option<Folder>,
 }
@@ -31,6 +34,7 @@ impl Drop for Source {
         let Source {
             reader,
             end: _,
+            history: _,
             folder,
         } = self;
         drop(reader);
@@ -50,11 +54,17 @@ impl Source {
         }
     }
 
+    /// The takeovers before the node whose log it is. A file tells of none.
+    pub fn history(&self) -> History {
+        self.history
+    }
+
     /// What is read of it, and the folder, to be held meanwhile.
     pub fn into_parts(self) -> (Take<File>, Option<Folder>) {
         let Source {
             reader,
             end: _,
+            history: _,
             folder,
         } = self;
         (reader, folder)
@@ -78,6 +88,7 @@ pub fn open<R: AllocGlobal + Files<File = File>>(rt: &R, path: &str) -> Result<S
     Ok(Source {
         reader: file.take(end),
         end,
+        history: History::empty(),
         folder: None,
     })
 }
@@ -96,7 +107,7 @@ pub(crate) fn check_reaches(source: &Source, until: Until) -> Result<(), Fault> 
 fn open_folder<R: AllocGlobal + Files<File = File>>(rt: &R, path: &str) -> Result<Source, Fault> {
     let folder = Folder::hold_to_read(rt, path)?;
     let files = folder.open_to_read(rt)?;
-    let end = acknowledged(rt.alloc(), &files)?;
+    let (end, history) = acknowledged(rt.alloc(), &files)?;
     let log = match File::open(rt, log_path(rt, path)?.as_path()) {
         Ok(log) => log,
         Err(e) => return Err(Fault::Folder(FolderFault::of(Part::Log, e))),
@@ -104,6 +115,7 @@ fn open_folder<R: AllocGlobal + Files<File = File>>(rt: &R, path: &str) -> Resul
     Ok(Source {
         reader: log.take(end),
         end,
+        history,
         folder: Some(folder),
     })
 }
@@ -113,9 +125,9 @@ pub fn log_path<R: AllocGlobal>(rt: &R, dir: &str) -> Result<PathBuf, AllocError
     PathBuf::from_str(rt.alloc(), dir)?.join(rt.alloc(), Part::Log.file_name())
 }
 
-/// Up to where the log of a folder is acknowledged.
-fn acknowledged(alloc: Global, files: &DeviceFiles) -> Result<u64, Fault>
-    ensures { IfOk result (λ end. (16 ≤ end) × (end ≤ 2147483648)) }
+/// Up to where the log of a folder is acknowledged, and the takeovers before its node.
+fn acknowledged(alloc: Global, files: &DeviceFiles) -> Result<(u64, History), Fault>
+    ensures { IfOk result (λ found. (16 ≤ found.0) × (found.0 ≤ 2147483648)) }
 {
     let mut front = [0; 16];
     if let Err(e) = files.log.read_exact_at(&mut front, 0) {
@@ -128,7 +140,7 @@ fn acknowledged(alloc: Global, files: &DeviceFiles) -> Result<u64, Fault>
     match read_state(&mut disk, header.pages, LOG_LIMIT) {
         Ok(state) => {
             check_length(files, state.mark)?;
-            Ok(state.mark.0)
+            Ok((state.mark.0, state.history))
         }
         Err(_) => Err(Fault::BadControl),
     }

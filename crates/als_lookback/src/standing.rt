@@ -1,6 +1,7 @@
 ghost use Rattle.std.specs.Prelude.{◌≡◌, IfOk};
 ghost use Rattle.als_analysis.specs.Open.{rows_of};
 
+use crate::doubt::Doubt;
 use als_analysis::OpenRow;
 use als_record::{Lsn, TransId, TransactionRow};
 use std::alloc::{AllocError, Global};
@@ -15,6 +16,8 @@ pub struct Standing {
     pub greatest: TransId,
     /// A row for each transaction that has not ended, in rising TransID.
     pub rows: Vec<TransactionRow>,
+    /// The transactions in doubt, in rising TransID.
+    pub doubts: Vec<Doubt>,
 }
 
 // Written out: a derived drop is proved wherever it is dropped, this one only here.
@@ -25,8 +28,10 @@ impl Drop for Standing {
             reserve: _,
             greatest: _,
             rows,
+            doubts,
         } = self;
         drop(rows);
+        drop(doubts);
     }
 }
 

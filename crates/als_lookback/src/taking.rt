@@ -13,7 +13,7 @@ use als_validator::Validator;
 use std::alloc::Global;
 
 /// What takes the records of a log one after another, each as it lies in the bytes that were read.
-pub(crate) trait TakeRecord {
+pub trait TakeRecord {
     /// Behind these records, this one was taken.
     ghost took: { Self → List AnyRecord → AnyRecord → Self → Type 0 };
 

@@ -5,3 +5,4 @@ pub mod Following
 pub mod Building
 pub mod Deciding
 pub mod TakingOver
+pub mod Replies

@@ -1,6 +1,6 @@
 use crate::fault::Fault;
+use crate::introducing::Introducing;
 use crate::line::Line;
-use crate::patience::dial;
 use crate::standby_command::Following;
 use als_engine::Fault as EngineFault;
 use als_epochs::History;
@@ -10,31 +10,34 @@ use als_wire::{read_epochs, write_epochs, write_resume};
 use std::alloc::Global;
 use std::io::{Read, Write};
 use std::net::{Net, OpenStream};
+use std::time::Clock;
 
 /// A connection, to be read and to be written.
 pub(crate) type Lines<S> = (Line<S>, Line<S>);
 
 /// Connects to the primary of a standby that has no database yet, and asks it for the log behind an
 /// empty database, as `call_from` says.
-pub fn call<R: AllocGlobal + Net>(
+pub(crate) fn call<R: AllocGlobal + Net + Clock>(
     rt: &R,
     following: Following<'_>,
-) -> Result<(Line<R::Stream>, Line<R::Stream>), Fault> {
-    let (lines, _) = call_from(rt, following, FIRST_LSN, &History::empty())?;
+    introducing: &mut Introducing,
+) -> Result<Lines<R::Stream>, Fault> {
+    let (lines, _) = call_from(rt, following, introducing, FIRST_LSN, &History::empty())?;
     Ok(lines)
 }
 
-/// Connects to the primary of a standby that ends there and has this history, and asks it, as `greet`
-/// says.
+/// Connects to the primary of a standby that ends there and has this history, says the id of its folder, and asks
+/// it, as `greet` says.
 ///
-/// Stream: nobody serves at the address, or the network failed. Else as `greet`.
-pub(crate) fn call_from<R: AllocGlobal + Net>(
+/// Stream: nobody serves at the address, or the network failed. Else as `Introducing::dial` and `greet`.
+pub(crate) fn call_from<R: AllocGlobal + Net + Clock>(
     rt: &R,
     following: Following<'_>,
+    introducing: &mut Introducing,
     end: Lsn,
     own: &History,
 ) -> Result<(Lines<R::Stream>, History), Fault> {
-    let stream = dial(rt, following)?;
+    let stream = introducing.dial(rt, following)?;
     let header = header_of(following.pages)?;
     greet(rt.alloc(), stream, header, end, own)
 }

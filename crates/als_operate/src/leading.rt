@@ -3,6 +3,7 @@ ghost use Rattle.std.specs.Prelude.{◌<◌, length, OnOk};
 
 use crate::fault::Fault;
 use crate::greeting::{Lines, call_from};
+use crate::introducing::Introducing;
 use crate::standby_command::Following;
 use als_epochs::{History, Step, judge};
 use als_folder::{Fault as FolderFault, Folder, Part, Trouble, Wrong};
@@ -10,6 +11,7 @@ use als_record::Lsn;
 use std::fs::File;
 use std::net::Net;
 use std::rt::Files;
+use std::time::Clock;
 
 /// A folder that is a primary's follows only who took over from it. Its role is taken away once the
 /// primary that it is to follow has said so, and the folder's log may go on with it. It is taken away
@@ -19,10 +21,11 @@ use std::rt::Files;
 ///
 /// Device: nobody took over from the folder, or the file of its role failed. Session, Stream: the
 /// primary was asked, and nobody serves at the address, what came is no history, or the network failed.
-pub(crate) fn give_up<R: AllocGlobal + Files<File = File> + Net>(
+pub(crate) fn give_up<R: AllocGlobal + Files<File = File> + Net + Clock>(
     rt: &R,
     folder: &Folder,
     following: Following<'_>,
+    introducing: &mut Introducing,
     end: Lsn,
     own: &History,
 ) -> Result<Option<Lines<R::Stream>>, Fault> {
@@ -34,7 +37,7 @@ pub(crate) fn give_up<R: AllocGlobal + Files<File = File> + Net>(
             Ok(None)
         }
         Some(_) => {
-            let (lines, offered) = call_from(rt, following, end, own)?;
+            let (lines, offered) = call_from(rt, following, introducing, end, own)?;
             check_taken_over(own, &offered)?;
             if may_adopt(own, &offered, end) {
                 folder.remove_role(rt)?;

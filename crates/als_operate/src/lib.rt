@@ -20,6 +20,12 @@ mod patience;
 mod opening;
 // A connection of which something was read and written before.
 mod line;
+// What came to the questions for a source's rank, for clauses alone.
+mod replies;
+// The id of a folder, as it has it or gets it.
+mod naming;
+// What is said to a source in front of a session.
+mod introducing;
 // A primary is asked before there is a database.
 mod greeting;
 // A primary's folder that becomes a standby's again.
@@ -30,7 +36,7 @@ mod nearly_full;
 mod holding;
 // A session of a standby.
 mod following;
-// A standby that follows one session.
+// What a standby is asked to follow, and what it prints in the end.
 mod standby_command;
 // A transaction in doubt is decided.
 mod deciding;
@@ -48,16 +54,17 @@ pub use deciding::decide;
 pub use fault::Fault;
 pub use following::follow;
 pub use forgetting::{Extent, Forgets, extent_of, forget};
-pub use greeting::call;
 pub use holding::{Held, hold};
+pub use introducing::{Introducing, Takes};
 pub use line::Line;
 pub use nearly_full::NearlyFull;
 pub use opening::{check_pages_fit, named, own_devices, reopen};
 pub use patience::{bound, dial, silence};
 pub use primary_folder::{begin_primary, open_primary};
+pub use replies::{Replies, Reply};
 pub use resolve_command::{Verdict, resolve};
 pub use settling::settle;
-pub use standby_command::{Following, PENDING, Prepared, conclude, prepare, standby};
+pub use standby_command::{Following, PENDING, conclude};
 pub use takeover_command::{TakenOver, takeover};
 pub use taking_over::{take_over, take_over_telling};
 pub use upkeep::StandbyUpkeep;

@@ -1,4 +1,5 @@
-ghost use Rattle.std.specs.Prelude.{◌≤◌};
+ghost use Rattle.std.specs.Prelude.{◌≡◌, ◌≤◌, ◌<◌};
+ghost use Rattle.als_report.specs.declared.state.State.TheVariants.{Committing, Unconfirmed};
 
 use crate::doubts::Doubts;
 use crate::services::Common;
@@ -53,7 +54,7 @@ pub(crate) fn begin<
     serving: Serving<'_>,
 ) -> Result<Begun, Fault> {
     let alloc = rt.alloc();
-    let board = board_of(alloc, engine, capacity)?;
+    let board = board_of(alloc, engine, capacity, serving.sync)?;
     let (doubts, shown) = shared(alloc, serving.sync)?;
     let (leader, askers) = seats(alloc, seats_of(serving.connections))?;
     let common = Common {
@@ -99,11 +100,24 @@ fn shared(
     Ok((doubts, shown))
 }
 
-/// The board of a primary with this engine.
+/// The state in which a primary begins: where a commit waits for followers, none is confirmed before they were
+/// asked.
+fn first_state(sync: u32) -> State
+    ensures alone { sync ≡ 0 → result ≡ Committing }
+    ensures waits { 0 < sync → result ≡ Unconfirmed }
+{
+    match sync {
+        0 => State::Committing,
+        _ => State::Unconfirmed,
+    }
+}
+
+/// The board of a primary with this engine, of whose commits so many followers have to acknowledge each.
 fn board_of<E: Events>(
     alloc: Global,
     engine: &E,
     capacity: Option<u64>,
+    sync: u32,
 ) -> Result<Arc<Board, Global>, AllocError> {
     let board = Arc::new(alloc, Board::new())?;
     let status = engine.status();
@@ -112,7 +126,7 @@ fn board_of<E: Events>(
     if let Some(bytes) = capacity {
         board.set_capacity(bytes);
     }
-    board.set_state(State::Committing);
+    board.set_state(first_state(sync));
     Ok(board)
 }
 

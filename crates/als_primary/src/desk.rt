@@ -90,6 +90,8 @@ impl<R: Wait + Clock> Clients for Desk<'_, R> {
 
     ghost told = { λ desk. told_of desk.account };
 
+    ghost may_tell = { λ asked answer. Unit {0} };
+
     fn wait(&mut self) -> Result<Waited, Fault> {
         let waited = match self.leader.wait(self.rt, Duration::from_millis(IDLE)) {
             Met::Asks => Waited::Asks,
@@ -119,6 +121,7 @@ impl<R: Wait + Clock> Clients for Desk<'_, R> {
         self.group
             .tell(now_of(self.rt), is_committed(&asked.work, &answer));
         note_refusal(&self.board, &answer);
+        note_number(&self.board, &answer);
         // Each seat that was handed out is the number of a place.
         if let Some(place) = Place::of(asked.seat) {
             self.leader.tell(self.rt, place, answer);
@@ -164,6 +167,14 @@ fn note_refusal(board: &Board, answer: &Answer) {
         Answer::Refused(refusal) => board.note_refusal(number_of(refusal.fault())),
         Answer::NotDecided(why) => board.note_refusal(number_of(why.fault())),
         Answer::Withheld => board.note_refusal(None),
+        _ => {}
+    }
+}
+
+/// Shows the number of a transaction that is in the log on the board: each is greater than those before.
+fn note_number(board: &Board, answer: &Answer) {
+    match answer {
+        Answer::Committed(written) | Answer::Prepared(written) => board.note_number(written.trans),
         _ => {}
     }
 }

@@ -22,6 +22,13 @@ pub(crate) struct Shipping {
     pub allowed: Allowed,
 }
 
+/// Refuses texts of which one is neither an address nor a block: BadConfig.
+pub fn check_followers(alloc: Global, texts: &[&str]) -> Result<(), Fault> {
+    let allowed = allowed_of(alloc, texts)?;
+    drop(allowed);
+    Ok(())
+}
+
 /// Who may follow. BadConfig: a text is neither an address nor a block.
 pub(crate) fn allowed_of(alloc: Global, texts: &[&str]) -> Result<Allowed, Fault> {
     let mut allowed = Allowed::new(alloc);

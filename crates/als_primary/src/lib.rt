@@ -12,7 +12,7 @@
 //! 3. Who may commit is decided before the folder is touched: clients with the token, or, without a
 //!    token, all clients of a loopback address.
 //! 4. Followers are sent the log below what is forced, each in a session of its own. With `sync` above 0
-//!    a group is published and answered once that many with different addresses have acknowledged it. So is
+//!    a group is published and answered once that many of different folders have acknowledged it. So is
 //!    the log with which the primary began: before that no request reads a key, or what is in doubt.
 //! 5. However the leader ends, what was not begun is answered so, what the engine has is put on the
 //!    devices, and each thread is joined.
@@ -60,6 +60,7 @@ mod running;
 pub use als_followers::{Notice, What};
 pub use announcing::Announces;
 pub use bad_token::BadToken;
+pub use following::check_followers;
 pub use ranges::check_numbers;
 pub use refusal::Refusal;
 pub use running::primary;

@@ -4,7 +4,7 @@ ghost use Rattle.als_primary.specs.Others.{blocks_of, IsConfirmed, IsMissed};
 
 use crate::answers::Answers;
 use als_followers::Allowed;
-use als_quorum::{Quorum, SEATS, Tail};
+use als_quorum::{Quorum, SEATS, Tail, Wanted};
 use als_record::Lsn;
 use als_report::Board;
 use std::alloc::{AllocError, Global};
@@ -80,13 +80,27 @@ impl<'a, R: Wait + Clock> Others<'a, R> {
         self.tail.raise(self.rt, end);
     }
 
-    /// Waits, at most this long, until enough followers have acknowledged the log up to there. Returns
-    /// whether they have.
-    pub fn ask(&mut self, end: Lsn, at_most: Duration) -> bool
+    /// The same, and a round begins, if any follower has to acknowledge a commit. Returns what is then wanted of them:
+    /// that they hold the log up to there, and say so in answer to a frame that is sent from now on.
+    pub fn begin_round(&self, end: Lsn) -> Wanted
+        ensures lsn { result.lsn ≡ end }
+    {
+        if self.count == 0 {
+            self.show(end);
+            return Wanted { lsn: end, round: 0 };
+        }
+        let round = self.tail.ask(self.rt, end);
+        Wanted { lsn: end, round }
+    }
+
+    /// Waits, at most this long, until enough followers have acknowledged what is wanted. Returns whether they have.
+    pub fn ask(&mut self, wanted: Wanted, at_most: Duration) -> bool
         ensures confirms { result ≡ true
-            → IsConfirmed (blocks_of self.old.quorum.value) self.old.count self.new.answers end.0 }
+            → IsConfirmed (blocks_of self.old.quorum.value) self.old.count self.new.answers
+            wanted.lsn.0 }
         ensures fails { result ≡ false
-            → IsMissed (blocks_of self.old.quorum.value) self.old.count self.new.answers end.0 }
+            → IsMissed (blocks_of self.old.quorum.value) self.old.count self.new.answers
+            wanted.lsn.0 }
         ensures keeps { (blocks : List Block) (k n : ℕ) → IsConfirmed blocks k self.old.answers n
             → IsConfirmed blocks k self.new.answers n }
         ensures misses { (blocks : List Block) (k n : ℕ) → IsMissed blocks k self.old.answers n
@@ -94,7 +108,7 @@ impl<'a, R: Wait + Clock> Others<'a, R> {
         ensures same { self.new.count ≡ self.old.count }
         ensures whose { self.new.quorum ≡ self.old.quorum }
     {
-        let tally = self.quorum.wait_for(self.rt, self.count, end, at_most);
+        let tally = self.quorum.wait_for(self.rt, self.count, wanted, at_most);
         self.answers.note(&tally);
         tally.is_enough
     }

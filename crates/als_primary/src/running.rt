@@ -20,6 +20,7 @@ use als_disk::FileDisk;
 use als_drive::Progress;
 use als_engine::{Engine, Events};
 use als_folder::{Folder, NameWatch};
+use als_followers::Allowed;
 use als_http::listen;
 use als_lead::{Database, Limits, Primary, PrimaryUpkeep, lead, open};
 use als_operate::{Fault, NearlyFull, named, settle};
@@ -47,10 +48,9 @@ const CHECKPOINT_BYTES: u64 = 4_194_304;
 /// Runs the primary of a folder: it commits and answers reads over HTTP until something fails. `lines`
 /// receives the progress of the redo before that, and what it announces to whoever runs it.
 ///
-/// BadConfig: a number is out of its range, followers have to acknowledge and none may connect, a follower
-/// is not an address, or the page count of a new database is missing; no file was touched. Stream: it cannot
-/// listen at an address. Else as for `als_lead::open`, or the first failure of the engine. However it ends,
-/// what the engine has is put on the devices.
+/// BadConfig: a number is out of its range, followers have to acknowledge and none may connect, or a follower is
+/// not an address; no file was touched. Stream: it cannot listen at an address. Else as for `als_lead::open`, or
+/// the first failure of the engine. However it ends, what the engine has is put on the devices.
 pub fn primary<
     R: AllocGlobal
         + Files<File = File>
@@ -91,11 +91,12 @@ fn serve<
         + 'static,
     P: Progress + Announces,
 >(rt: &R, serving: Serving<'_>, lines: &mut P) -> Result<(), Refusal> {
+    let allowed = allowed_of(rt.alloc(), serving.followers)?;
     let token = token_of(rt, serving)?;
     let listener = listen(rt, rt.alloc(), serving.serve)?;
     let guard = guard_of(&listener, token)?;
     let addr = listener.local_addr()?;
-    let shipping = shipping_of(rt, serving)?;
+    let shipping = shipping_of(rt, serving, allowed)?;
     let Primary {
         folder,
         mut engine,
@@ -135,11 +136,10 @@ fn names_of<R: AllocGlobal>(rt: &R, folder: &Folder) -> Result<NameWatch, Fault>
 fn shipping_of<R: AllocGlobal + Net<Listener = TcpListener, Stream = TcpStream>>(
     rt: &R,
     serving: Serving<'_>,
+    allowed: Allowed,
 ) -> Result<Shipping, Fault> {
-    let alloc = rt.alloc();
-    let allowed = allowed_of(alloc, serving.followers)?;
     let listener = match serving.listen {
-        Some(addr) => Some(listen(rt, alloc, addr)?),
+        Some(addr) => Some(listen(rt, rt.alloc(), addr)?),
         None => None,
     };
     Ok(Shipping { listener, allowed })

@@ -5,10 +5,10 @@ pub struct Serving<'a> {
     pub dir: &'a str,
     /// The address at which it serves HTTP.
     pub serve: &'a str,
-    /// Pages of a new database, 1 to 4,096.
+    /// Pages that it has to have, 1 to 4,096. None: as many as it has.
     pub pages: Option<u64>,
-    /// Blocks of the log device of a new database, 1 to 4,194,304.
-    pub log_blocks: u64,
+    /// Blocks that its log device has to have at least, 1 to 4,194,304. None: as many as it has.
+    pub log_blocks: Option<u64>,
     /// The file with the token that clients send to commit. None: no token is wanted.
     pub token_file: Option<&'a str>,
     /// The connections that are served at a time, 1 to 64.
@@ -17,7 +17,7 @@ pub struct Serving<'a> {
     pub commit_timeout: u64,
     /// The address at which followers connect, `HOST:PORT`. None: nobody may follow.
     pub listen: Option<&'a str>,
-    /// How many followers with different addresses have to acknowledge a commit before its answer, 0 to 8.
+    /// How many followers of different folders have to acknowledge a commit before its answer, 0 to 8.
     pub sync: u32,
     /// The frames that a follower's session may have on their way unanswered, 1 to 64.
     pub window: u32,

@@ -13,6 +13,7 @@ use als_folder::NameWatch;
 use als_followers::{Followers, NodeSource};
 use als_lead::{PrimaryUpkeep, Upkeep};
 use als_operate::NearlyFull;
+use als_quorum::Wanted;
 use als_record::Lsn;
 use als_report::{Board, State};
 use std::fs::File;
@@ -62,13 +63,12 @@ pub(crate) struct Watching<'a, R: Wait + Drop, A> {
 }
 
 impl<R: Wait + Clock + Drop, A: Announces> Watching<'_, R, A> {
-    /// Waits a moment until enough followers have acknowledged the log up to there. Returns whether they
-    /// have.
-    fn ask(&mut self, end: Lsn) -> bool
+    /// Waits a moment until enough followers have acknowledged what is wanted. Returns whether they have.
+    fn ask(&mut self, wanted: Wanted) -> bool
         ensures confirms { result ≡ true → IsConfirmed (blocks_of self.new.others.quorum.value)
-            self.new.others.count self.new.others.answers end.0 }
+            self.new.others.count self.new.others.answers wanted.lsn.0 }
         ensures fails { result ≡ false → IsMissed (blocks_of self.new.others.quorum.value)
-            self.new.others.count self.new.others.answers end.0 }
+            self.new.others.count self.new.others.answers wanted.lsn.0 }
         ensures keeps { (blocks : List Block) (k n : ℕ)
             → IsConfirmed blocks k self.old.others.answers n
             → IsConfirmed blocks k self.new.others.answers n }
@@ -78,12 +78,10 @@ impl<R: Wait + Clock + Drop, A: Announces> Watching<'_, R, A> {
         ensures same { self.new.others.count ≡ self.old.others.count }
         ensures whose { self.new.others.quorum ≡ self.old.others.quorum }
     {
-        let is_enough = self.others.ask(end, Duration::from_millis(MOMENT));
+        let is_enough = self.others.ask(wanted, Duration::from_millis(MOMENT));
         if is_enough {
             self.shown.confirm();
-            if self.delay.is_on() {
-                self.board.set_state(State::Committing);
-            }
+            self.board.set_state(State::Committing);
             self.delay.end();
         } else {
             self.others.note(self.board);
@@ -99,11 +97,11 @@ impl<R: Wait + Clock + Drop, A: Announces> Watching<'_, R, A> {
     }
 
     /// Does the same for as many moments as a group may wait.
-    fn ask_long(&mut self, end: Lsn) -> bool
+    fn ask_long(&mut self, wanted: Wanted) -> bool
         ensures confirms { result ≡ true → IsConfirmed (blocks_of self.new.others.quorum.value)
-            self.new.others.count self.new.others.answers end.0 }
+            self.new.others.count self.new.others.answers wanted.lsn.0 }
         ensures fails { result ≡ false → IsMissed (blocks_of self.new.others.quorum.value)
-            self.new.others.count self.new.others.answers end.0 }
+            self.new.others.count self.new.others.answers wanted.lsn.0 }
         ensures keeps { (blocks : List Block) (k n : ℕ)
             → IsConfirmed blocks k self.old.others.answers n
             → IsConfirmed blocks k self.new.others.answers n }
@@ -114,11 +112,11 @@ impl<R: Wait + Clock + Drop, A: Announces> Watching<'_, R, A> {
         ensures whose { self.new.others.quorum ≡ self.old.others.quorum }
     {
         for _ in 1..self.moments {
-            if self.ask(end) {
+            if self.ask(wanted) {
                 return true;
             }
         }
-        self.ask(end)
+        self.ask(wanted)
     }
 }
 
@@ -185,6 +183,7 @@ fn waits_out(short: &mut u32, met: &Result<(), Fault>) -> bool {
 }
 
 impl<R: Wait + Clock + Files<File = File> + Drop, A: Announces> Upkeep for Watching<'_, R, A> {
+    ghost use Rattle.std.specs.Prelude.{◌≡◌};
     ghost use Rattle.als_primary.specs.Others.{blocks_of, IsConfirmed, IsMissed};
 
     // The quorum answered that enough followers whose addresses count have acknowledged it.
@@ -194,6 +193,13 @@ impl<R: Wait + Clock + Files<File = File> + Drop, A: Announces> Upkeep for Watch
     // The quorum answered that too few have.
     ghost missed = { λ watching n. IsMissed (blocks_of watching.others.quorum.value)
         watching.others.count watching.others.answers n };
+
+    // As many followers, of the same addresses.
+    ghost alike = { λ one other. (one.others.count ≡ other.others.count)
+        × (blocks_of one.others.quorum.value ≡ blocks_of other.others.quorum.value) };
+
+    // The quorum always answers.
+    ghost failed = { λ watching f. ⊥ };
 
     // If memory is refused, readers see the rest before the next group. The list of transactions in doubt is
     // up to date before a group is answered.
@@ -235,13 +241,15 @@ impl<R: Wait + Clock + Files<File = File> + Drop, A: Announces> Upkeep for Watch
         Ok(())
     }
 
+    // Also a group that wrote nothing is answered only once enough followers have answered a frame that was sent after it
+    // was taken: by a primary that nobody follows any more, another one may have gone on.
     fn confirm(&mut self, end: Lsn) -> Result<bool, Fault> {
-        self.others.show(end);
-        Ok(self.ask_long(end))
+        let wanted = self.others.begin_round(end);
+        Ok(self.ask_long(wanted))
     }
 
     fn has_confirmed(&mut self, end: Lsn) -> Result<bool, Fault> {
         self.others.show(end);
-        Ok(self.ask(end))
+        Ok(self.ask(Wanted { lsn: end, round: 0 }))
     }
 }

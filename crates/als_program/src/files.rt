@@ -1,14 +1,17 @@
 ghost use Rattle.std.specs.Prelude.{IfOk};
 ghost use Rattle.als_program.specs.Status.{IsStatus};
 
+use crate::backing_up::keep;
 use crate::failure::Failure;
+use crate::laying_out::lay_out_new;
 use crate::meeting_lines::MeetingLines;
 use crate::patience::stand_at_last;
 use crate::redo_lines::RedoLines;
 use crate::refusal::Refusal;
 use crate::sound_pages::{check_followable, check_sound};
 use crate::terminals::Terminals;
-use crate::{log_sizes, partings, troubles};
+use crate::weighing::{tell_alone, weigh};
+use crate::{log_sizes, loss_lines, options, partings, troubles};
 use als_command::Command;
 use als_drive::Progress;
 use als_engine::Decision;
@@ -16,11 +19,12 @@ use als_fanout::{Lasting, ship_node_on, ship_on};
 use als_fault::FaultKind;
 use als_folder::{Part, Trouble, Wrong};
 use als_inspect::{Wanted, dump, get, status, verify_telling};
+use als_lead::NewDatabase;
 use als_lookback::{
     Fault as LookFault, Until, commit_of, commits, cut, get as get_at, grow, open as open_log,
     show, status as status_at,
 };
-use als_operate::{Following, TakenOver, Verdict, forget, resolve, standby, takeover};
+use als_operate::{Following, TakenOver, Verdict, forget, resolve, takeover};
 use als_progress::Advance;
 use als_rebuild::rebuild_pages;
 use als_record::{Key, Lsn, TransId};
@@ -46,7 +50,13 @@ const WORKER_LIMIT: u64 = 8;
 const HEADER: u64 = 16;
 
 /// The log blocks of a new database, where the command line does not say.
-pub const LOG_BLOCKS: u64 = 2_048;
+const LOG_BLOCKS: u64 = 2_048;
+
+/// The frames that are sent ahead of their answers, where the command line does not say.
+pub const WINDOW: u32 = 16;
+
+/// The threads that answer reads, where the command line does not say.
+const READERS: u64 = 2;
 
 /// A command on files, that reads no standard input. More is said of a refusal where that was asked
 /// for, or a person sees it.
@@ -92,46 +102,61 @@ pub fn refused<R: AllocGlobal + Files<File = File>, O: Write, E: Write>(
     ensures status { IfOk result IsStatus }
 {
     let failure = Failure::from(refusal);
-    let Some(path) = told_of(command, terminals.errors) else {
-        return Err(failure);
-    };
+    loss_lines::tell(rt, command, refusal.kind, errors);
     // What was printed comes before what is said of it.
     output.flush()?;
     let status = failure.report(errors);
+    tell_cause(rt, command, refusal, errors);
+    let Some(path) = told_of(command, terminals.errors) else {
+        return Ok(status);
+    };
     match refusal.trouble {
         Some(trouble) => explain(rt, path, trouble, errors),
-        None if lacks_pages(command, refusal.kind) && log_sizes::is_vacant(rt, path) => {
-            explain_pages(path, errors)
-        }
         None => explain_path(rt, path, refusal.kind, errors),
     }
     explain_file(rt, path, errors);
     if refusal.kind == FaultKind::Stream {
         explain_addresses(command, errors);
     }
-    if matches!(command, Command::Standby { .. }) {
-        // Where it can't be said, the status has to do.
-        let _ = partings::tell(errors, path, refusal.kind);
-    }
+    // Where it can't be said, the status has to do.
+    let _ = match command {
+        Command::Standby { .. } => partings::tell(errors, path, refusal.kind),
+        Command::Takeover { .. } => partings::tell_leader(errors, path, refusal.kind),
+        _ => Ok(()),
+    };
     Ok(status)
 }
 
-/// Whether a page count was left out, and what was asked for refused for its numbers.
-fn lacks_pages(command: Command, kind: FaultKind) -> bool {
-    let is_left_out = matches!(
-        command,
-        Command::Primary { pages: None, .. } | Command::Commit { pages: None, .. }
-    );
-    is_left_out && kind == FaultKind::BadConfig
-}
-
-/// Says what a new database needs.
-fn explain_pages<E: Write>(path: &str, errors: &mut E) {
-    // Where it can't be said, the status has to do.
-    let _ = writeln!(
-        errors,
-        "als: {path}: a folder without a database needs --pages N, 1 to 4096"
-    );
+/// Says which option a command is refused for, and whether the folder of a primary has a database, and of which
+/// sizes: that is always said, since the number has several causes.
+fn tell_cause<R: AllocGlobal + Files<File = File>, E: Write>(
+    rt: &R,
+    command: Command,
+    refusal: Refusal,
+    errors: &mut E,
+) {
+    if refusal.kind == FaultKind::BadConfig {
+        if let Some(mistake) = options::mistake_in(command) {
+            // Where it can't be said, the page of help has the ranges.
+            let _ = options::tell(errors, mistake);
+            return;
+        }
+    }
+    match command {
+        Command::Primary {
+            dir,
+            pages,
+            log_blocks,
+            ..
+        }
+        | Command::Commit {
+            dir,
+            pages,
+            log_blocks,
+            ..
+        } => log_sizes::tell_primary(rt, dir, pages, log_blocks, refusal, errors),
+        _ => {}
+    }
 }
 
 /// Says what is wrong with a path, where nobody looked at its files.
@@ -146,10 +171,6 @@ fn explain_path<R: AllocGlobal + Files<File = File>, E: Write>(
         FaultKind::Stream if fs::metadata(rt, path).is_err() => {
             writeln!(errors, "als: {path}: it is missing, or may not be read")
         }
-        FaultKind::BadConfig => writeln!(
-            errors,
-            "als: a number is missing or out of its range: the lines of 37 in --help have the ranges"
-        ),
         FaultKind::NotPrimary => writeln!(
             errors,
             "als: {path}: it is the folder of a standby, or a primary decides there: see als status; als takeover makes a standby a primary, once its own is gone"
@@ -255,6 +276,20 @@ fn attempt<
         Command::Ship { .. } | Command::ShipNode { .. } => {
             serve_log(rt, seen, command, output, errors)
         }
+        Command::New {
+            dir,
+            pages,
+            log_blocks,
+            explain: _,
+        } => {
+            let log_blocks = log_blocks.unwrap_or(LOG_BLOCKS);
+            let new = NewDatabase {
+                dir,
+                pages,
+                log_blocks,
+            };
+            lay_out_new(rt, new, output)
+        }
         Command::Standby { .. } => follow(rt, seen, command, output, errors),
         Command::Takeover { .. } | Command::RebuildPages { .. } | Command::Resolve { .. } => {
             lead(rt, seen, command, output, errors)
@@ -262,6 +297,8 @@ fn attempt<
         Command::Begin { .. } | Command::Rewind { .. } => {
             renew(rt, seen, command, output, errors)
         }
+        Command::Backup { .. } => keep(rt, beside, command, output, errors),
+        Command::Restore { .. } => keep(rt, seen, command, output, errors),
         Command::Dump { .. } => inspect(rt, beside, command, output, errors),
         Command::Verify { .. } | Command::Status { at: None, .. } | Command::Get { at: None, .. } =>
             inspect(rt, seen, command, output, errors),
@@ -309,7 +346,7 @@ fn serve_log<
             let lasting = Lasting {
                 keep,
                 grows: follow,
-                window,
+                window: window.unwrap_or(WINDOW),
             };
             let mut lines = MeetingLines::new(errors, seen || explain);
             if keep || follow {
@@ -333,7 +370,7 @@ fn serve_log<
             };
             let mut lines = MeetingLines::new(errors, seen || explain);
             if keep {
-                ship_node_on(rt, shipping, window, &mut lines, output)?
+                ship_node_on(rt, shipping, window.unwrap_or(WINDOW), &mut lines, output)?
             } else {
                 ship_node(rt, shipping, &mut lines, output)?
             }
@@ -372,6 +409,7 @@ fn follow<
         serve,
         readers,
         forget_unreached,
+        uncompared,
         listen,
         window,
         followers,
@@ -396,12 +434,13 @@ fn follow<
     if keep || serve.is_some() || listen.is_some() {
         let followers = named_in(rt.alloc(), followers)?;
         let service = Service {
-            workers: workers_of(workers)?,
+            workers: workers_of(workers)?.max(1),
             serve,
-            readers,
+            readers: readers.unwrap_or(READERS),
             keep,
+            uncompared,
             listen,
-            window,
+            window: window.unwrap_or(WINDOW),
             followers: followers.as_slice(),
         };
         return stand_at_last(rt, following, service, forget_unreached, &mut lines, output);
@@ -409,13 +448,12 @@ fn follow<
     if forget_unreached {
         forget(rt, dir, &mut lines)?;
     }
-    lines.of_one_session();
     check_followable(rt, dir, &mut lines)?;
-    stand_by(rt, following, workers, &mut lines, output)
+    stand_by(rt, following, workers, uncompared, &mut lines, output)
 }
 
 /// Says where the log of a folder's database has another number of blocks than is asked for.
-pub fn contradict<R: AllocGlobal + Files<File = File>, E: Write>(
+fn contradict<R: AllocGlobal + Files<File = File>, E: Write>(
     rt: &R,
     dir: &str,
     log_blocks: Option<u64>,
@@ -460,21 +498,28 @@ pub fn named_in(alloc: Global, list: Option<&str>) -> Result<Vec<&str>, AllocErr
 }
 
 /// `als takeover`, `als rebuild-pages` and `als resolve`.
-fn lead<R: AllocGlobal + Files<File = File> + Wait + Clock, O: Write, E: Write>(
-    rt: &R,
-    seen: bool,
-    command: Command,
-    output: &mut O,
-    errors: &mut E,
-) -> Result<(), Refusal> {
+fn lead<
+    R: AllocGlobal
+        + Files<File = File>
+        + Net<Listener = TcpListener, Stream = TcpStream>
+        + Wait
+        + Clock,
+    O: Write,
+    E: Write,
+>(rt: &R, seen: bool, command: Command, output: &mut O, errors: &mut E) -> Result<(), Refusal> {
     let mut lines = RedoLines::new(&mut *errors, rt, seen, false);
     match command {
-        Command::Takeover { dir, .. } => {
+        Command::Takeover { dir, peers, .. } => {
+            let named = peers.list(rt.alloc())?;
+            let alone = weigh(rt, dir, named.as_slice(), &mut lines)?;
             check_sound(rt, dir, &mut lines)?;
             let TakenOver { doubts, is_empty } = takeover(rt, dir, &mut lines, output)?;
             drop(lines);
             if is_empty {
                 tell_emptiness(dir, output, errors)?;
+            }
+            if let Some(own) = alone {
+                tell_alone(dir, own, output, errors)?;
             }
             tell_doubts(dir, doubts.as_slice(), output, errors)
         }
@@ -514,9 +559,14 @@ fn renew<R: AllocGlobal + Files<File = File> + Wait + Clock, O: Write, E: Write>
                 return Err(Refusal::from(fault));
             }
         }
-        Command::Rewind { dir, lsn, .. } => {
+        Command::Rewind {
+            dir,
+            lsn,
+            lose_commits,
+            ..
+        } => {
             let mut printed: Vec<u8> = Vec::new(rt.alloc());
-            let outcome = rewind(rt, dir, Lsn(lsn), &mut lines, &mut printed);
+            let outcome = rewind(rt, dir, Lsn(lsn), lose_commits, &mut lines, &mut printed);
             drop(lines);
             if let Err(fault) = outcome {
                 tell_boundary(lsn, fault, errors);
@@ -535,7 +585,7 @@ fn tell_doubt<E: Write>(path: &str, fault: RenewFault, errors: &mut E) {
         // Where it can't be said, `als status` can.
         let _ = writeln!(
             errors,
-            "als: transaction {} of {path} is in doubt: it was prepared and not decided; decide it, then begin again",
+            "als: transaction {} of {path} is in doubt and can't be carried on: its number is not above the page count, or 256 are in doubt; decide it, then begin again",
             trans.0
         );
     }
@@ -573,8 +623,12 @@ fn tell_boundary<E: Write>(lsn: u64, fault: RewindFault, errors: &mut E) {
         ),
         RewindFault::NoBoundary { below } => writeln!(
             errors,
-            "als: no record ends at {lsn}; the last one below it ends at {}",
+            "als: no record ends at {lsn}; the last one below it ends at {}. Where another node named {lsn} as its seal, its log is another one than this node's, as after als begin: rewind nothing, and follow that node with an empty folder",
             below.0
+        ),
+        RewindFault::Loses { commits } => writeln!(
+            errors,
+            "als: nothing was written: als rewind loses what was committed there only with --lose-commits {commits}"
         ),
         RewindFault::Kept => writeln!(
             errors,
@@ -694,7 +748,7 @@ fn is_cut(fault: LookFault) -> bool {
 }
 
 /// Says why a look back is refused, where its number has several causes.
-fn tell_look<E: Write>(fault: LookFault, errors: &mut E) {
+pub(crate) fn tell_look<E: Write>(fault: LookFault, errors: &mut E) {
     // Where it can't be said, the page of help has the causes.
     let _ = match fault {
         LookFault::InHeader => writeln!(errors, "als: an LSN below 16 is within the log's header"),
@@ -720,8 +774,7 @@ fn until(at: Option<u64>) -> Until {
 }
 
 /// Follows a session with this many threads that redo, once the primary was asked whether its log is the
-/// held one; with none in the calling thread alone, and nothing is asked. BadConfig: more than
-/// `WORKER_LIMIT`.
+/// held one; with none in the calling thread alone. BadConfig: more than `WORKER_LIMIT`.
 fn stand_by<
     R: AllocGlobal
         + Files<File = File>
@@ -741,18 +794,16 @@ fn stand_by<
     rt: &R,
     following: Following<'_>,
     workers: u64,
+    uncompared: bool,
     progress: &mut P,
     output: &mut O,
 ) -> Result<(), Refusal> {
-    if workers == 0 {
-        standby(rt, following, progress, output)?;
-        return Ok(());
-    }
     let service = Service {
         workers: workers_of(workers)?,
         serve: None,
         readers: 1,
         keep: false,
+        uncompared,
         listen: None,
         window: 1,
         followers: &[],
@@ -848,7 +899,8 @@ fn told_of(command: Command<'_>, seen: bool) -> Option<&str> {
         Command::Make { .. } | Command::Sim { .. } | Command::Ship { .. } => return None,
         Command::ShipNode { dir, explain, .. } => (dir, explain),
         Command::Standby { dir, explain, .. } => (dir, explain),
-        Command::Takeover { dir, explain } => (dir, explain),
+        Command::Takeover { dir, explain, .. } => (dir, explain),
+        Command::New { dir, explain, .. } => (dir, explain),
         Command::Commit { dir, explain, .. } => (dir, explain),
         Command::Primary { dir, explain, .. } => (dir, explain),
         Command::RebuildPages { dir, explain } => (dir, explain),
@@ -857,6 +909,13 @@ fn told_of(command: Command<'_>, seen: bool) -> Option<&str> {
         Command::Verify { path, explain } => (path, explain),
         Command::Status { dir, explain, .. } => (dir, explain),
         Command::Begin { path, explain } => (path, explain),
+        Command::Backup {
+            dir: Some(dir),
+            explain,
+            ..
+        } => (dir, explain),
+        Command::Backup { .. } => return None,
+        Command::Restore { path, explain, .. } => (path, explain),
         Command::Rewind { dir, explain, .. } => (dir, explain),
         Command::Commits { path, explain } => (path, explain),
         Command::CutAt { path, explain, .. } => (path, explain),

@@ -19,6 +19,10 @@ mod sound_pages;
 mod patience;
 // A standby whose log parted from its primary's.
 mod partings;
+// What a node loses that is taken back.
+mod loss_lines;
+// A node's rank beside those of its peers.
+mod weighing;
 // Whom a shipper meets.
 mod meeting_lines;
 // Why the program ends without having done what it was asked.
@@ -31,12 +35,20 @@ mod input_fault;
 mod input;
 // The commands that read standard input.
 mod lines;
+// Which option is refused.
+mod options;
+// `als new`.
+mod laying_out;
 // `als commit`.
 mod committing;
+// Who may not follow, and was reported.
+mod strangers;
 // What a primary says.
 mod serving_lines;
 // `als primary`.
 mod serving;
+// `als backup`, `als restore`.
+mod backing_up;
 // The commands on files.
 mod files;
 // What the command line asks for is done.

@@ -8,7 +8,7 @@ pub fn tell<W: Write>(errors: &mut W, path: &str, kind: FaultKind) -> io::Result
     match kind {
         FaultKind::Diverged { seal } => writeln!(
             errors,
-            "als: {path}: the two logs parted at offset {seal}: the node that serves goes on from a takeover that was sealed there, and this log goes past it. What it holds past {seal} is not in that node's log: als rewind --dir {path} --to {seal} keeps that in a file beside the folder, which follows on then; or keep the folder, and follow with an empty one"
+            "als: {path}: the two logs parted at offset {seal}: the node that serves goes on from a takeover that was sealed there, and this log goes past it. What it holds past {seal} is not in that node's log. First see that both are one log up to there, by als cut PATH --at {seal} | sha256sum of both: where they differ, or that node's log was begun by als begin, it is another log, and only an empty folder follows it. Where they are the same, als rewind --dir {path} --to {seal} keeps what is past it in a file beside the folder, which follows on then; or keep the folder, and follow with an empty one"
         ),
         FaultKind::OtherEpoch { epoch } => writeln!(
             errors,
@@ -20,7 +20,18 @@ pub fn tell<W: Write>(errors: &mut W, path: &str, kind: FaultKind) -> io::Result
         ),
         FaultKind::LogFull => writeln!(
             errors,
-            "als: {path}: the log has no room for what comes next. What it holds is whole, and it may be taken over as it is. als grow makes it longer, and then als standby goes on; at 4194304 blocks, 2 GiB, als begin makes a new log of what the database holds, for a new primary and its standbys"
+            "als: {path}: the log has no room for what comes next, which this node lacks. als grow makes it longer, and then als standby goes on. Take it over only where no other node has more (als takeover --peer): what it lacks may have been answered. At 4194304 blocks, 2 GiB, als begin makes a new log of what the database holds, for a new primary and its standbys"
+        ),
+        _ => Ok(()),
+    }
+}
+
+/// Says in words why a node can't be taken over, and what an operator does then.
+pub fn tell_leader<W: Write>(errors: &mut W, path: &str, kind: FaultKind) -> io::Result<()> {
+    match kind {
+        FaultKind::EpochsSpent => writeln!(
+            errors,
+            "als: {path}: the history has 32 takeovers, and no room for one more. Where als status shows seals at end= that this folder never reached, als standby --forget-unreached drops them. Else begin a history: als cut {path} --at END > FILE, END being end= of als status; als ship --log FILE --listen ADDR; als standby of an empty folder --from there, until its end= is END; and als takeover of that folder. It keeps each value, LSN and transaction in doubt; the other standbys follow it with empty folders. als begin does so too, with new LSNs"
         ),
         _ => Ok(()),
     }

@@ -33,8 +33,6 @@ pub struct RedoLines<'a, W: Write, C> {
     told: Option<u64>,
     /// Whether it is said that nobody sends.
     tells_outages: bool,
-    /// Whether one session is followed, and nobody is served.
-    is_brief: bool,
 }
 
 // Written out: a derived drop is proved wherever they are dropped, this one only here.
@@ -49,7 +47,6 @@ impl<W: Write + Drop, C> Drop for RedoLines<'_, W, C> {
             last: _,
             told: _,
             tells_outages: _,
-            is_brief: _,
         } = self;
         drop(errors);
     }
@@ -90,13 +87,7 @@ impl<'a, W: Write, C: Clock> RedoLines<'a, W, C> {
             last: None,
             told: None,
             tells_outages: seen || asked,
-            is_brief: false,
         }
-    }
-
-    /// One session is followed, and nobody is served.
-    pub fn of_one_session(&mut self) {
-        self.is_brief = true;
     }
 
     /// The log of a folder was read, and is read once more by an engine, which tells nothing of it. Where it
@@ -279,6 +270,14 @@ impl<W: Write, C> Outages for RedoLines<'_, W, C> {
         };
     }
 
+    // Nothing is served before one answers, so that is said to everybody.
+    fn unopened(&mut self, fault: Fault, millis: u64) {
+        let _ = writeln!(
+            self.errors,
+            "als: no primary has answered: {fault}; before one has, nothing is opened or laid out; it is asked again in {millis} ms"
+        );
+    }
+
     // What is refused, or may be a wrong option, is said to everybody: the standby goes on.
     fn refusal(&mut self, fault: Fault, millis: u64) {
         let _ = writeln!(
@@ -295,11 +294,7 @@ impl<W: Write, C> Outages for RedoLines<'_, W, C> {
         );
     }
 
-    // A source of one session answers no question: who follows that is told where he asks for more.
     fn uncompared(&mut self) {
-        if self.is_brief && !self.tells_outages {
-            return;
-        }
         let _ = writeln!(
             self.errors,
             "als: the primary does not compare logs: another log with records of the same lengths would be followed"
@@ -309,7 +304,7 @@ impl<W: Write, C> Outages for RedoLines<'_, W, C> {
     fn hang_ups(&mut self, count: u32) {
         let _ = writeln!(
             self.errors,
-            "als: the primary hung up at once, {count} times in a row; one possible cause is that its log has another number of pages than --pages says"
+            "als: the primary hung up at once, {count} times in a row; possible causes are that its log has another number of pages than --pages says, that it does not compare logs (--uncompared), and that a session with the id of this folder goes on: one that hangs ends by itself; of a folder that is a copy, and of no other, remove its file id"
         );
     }
 }

@@ -3,6 +3,7 @@ use als_folder::{Part, Trouble, Wrong};
 use als_inspect::Fault as InspectFault;
 use als_lookback::Fault as LookFault;
 use als_operate::Fault as OperateFault;
+use als_peers::Fault as PeerFault;
 use als_renew::Fault as RenewFault;
 use als_rewind::Fault as RewindFault;
 use std::alloc::AllocError;
@@ -17,6 +18,12 @@ pub struct Refusal {
 }
 
 impl Refusal {
+    /// An option is out of its range, or has no effect.
+    pub const BAD_CONFIG: Refusal = Refusal {
+        kind: FaultKind::BadConfig,
+        trouble: None,
+    };
+
     /// Whether another program has the folder, or one of its files by a name in another folder.
     pub fn is_of_lock(self) -> bool {
         matches!(
@@ -87,6 +94,15 @@ impl From<RenewFault> for Refusal {
 
 impl From<RewindFault> for Refusal {
     fn from(fault: RewindFault) -> Refusal {
+        Refusal {
+            kind: fault.kind(),
+            trouble: fault.trouble(),
+        }
+    }
+}
+
+impl From<PeerFault> for Refusal {
+    fn from(fault: PeerFault) -> Refusal {
         Refusal {
             kind: fault.kind(),
             trouble: fault.trouble(),

@@ -3,8 +3,10 @@ ghost use Rattle.als_program.specs.Status.{IsStatus};
 
 use crate::committing::commit_lines;
 use crate::failure::Failure;
-use crate::files::{LOG_BLOCKS, contradict, named_in, operate};
+use crate::files::{WINDOW, named_in, operate, refused};
 use crate::lines::{Telling, make_lines, run_script};
+use crate::options::misplaced;
+use crate::refusal::Refusal;
 use crate::remarks::Language;
 use crate::serving::serve_primary;
 use crate::terminals::Terminals;
@@ -151,6 +153,9 @@ fn obey<
         Err(NoCommand::Mistake(text)) => return Err(Failure::Usage(text)),
         Err(NoCommand::Memory) => return Err(Failure::Memory),
     };
+    if misplaced(command).is_some() {
+        return refused(rt, terminals, command, Refusal::BAD_CONFIG, output, errors);
+    }
     match command {
         Command::Make { hex, explain } => {
             if terminals.output && !hex {
@@ -171,11 +176,10 @@ fn obey<
             skip_bad,
             explain: _,
         } => {
-            contradict(rt, dir, log_blocks, errors);
             let committing = Committing {
                 dir,
                 pages,
-                log_blocks: log_blocks.unwrap_or(LOG_BLOCKS),
+                log_blocks,
                 batch,
                 skip_bad,
             };
@@ -196,25 +200,27 @@ fn obey<
             timeout,
             explain: _,
         } => {
-            contradict(rt, dir, log_blocks, errors);
             let followers = named_in(rt.alloc(), followers)?;
             let serving = Serving {
                 dir,
                 serve,
                 pages,
-                log_blocks: log_blocks.unwrap_or(LOG_BLOCKS),
+                log_blocks,
                 token_file,
                 connections,
                 commit_timeout,
                 listen,
                 sync,
-                window,
+                window: window.unwrap_or(WINDOW),
                 timeout,
                 followers: followers.as_slice(),
             };
             serve_primary(rt, terminals, command, serving, output, errors)
         }
-        Command::Begin { .. } | Command::CutAt { .. } | Command::CutBefore { .. }
+        Command::Begin { .. }
+        | Command::Backup { resume: None, .. }
+        | Command::CutAt { .. }
+        | Command::CutBefore { .. }
             if terminals.output => { Err(Failure::TextOnTerminal) }
         command => operate(rt, terminals, command, output, errors),
     }

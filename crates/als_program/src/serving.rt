@@ -3,6 +3,7 @@ ghost use Rattle.als_program.specs.Status.{IsStatus};
 
 use crate::failure::Failure;
 use crate::files::refused;
+use crate::options::tell_few;
 use crate::redo_lines::RedoLines;
 use crate::refusal::Refusal;
 use crate::serving_lines::{ServingLines, text_of};
@@ -10,7 +11,7 @@ use crate::sound_pages::check_sound;
 use crate::terminals::Terminals;
 use als_command::Command;
 use als_operate::Fault;
-use als_primary::{Refusal as Unserved, Serving, check_numbers, primary};
+use als_primary::{Refusal as Unserved, Serving, check_followers, check_numbers, primary};
 use std::alloc::{AllocError, Global};
 use std::fs::File;
 use std::io::Write;
@@ -63,17 +64,18 @@ pub fn serve_primary<
     }
 }
 
-/// Refuses a page that is not what its log makes of it. A number that is out of its range is left to the
-/// command: no folder is looked at for it.
+/// Refuses a page that is not what its log makes of it. A number that is out of its range, and a follower that
+/// is no address, is left to the command: no folder is looked at for it.
 fn check_pages<R: AllocGlobal + Files<File = File> + Clock, E: Write>(
     rt: &R,
     terminals: Terminals,
     serving: Serving<'_>,
     errors: &mut E,
 ) -> Result<(), Refusal> {
-    if check_numbers(serving).is_err() {
+    if check_numbers(serving).is_err() || check_followers(rt.alloc(), serving.followers).is_err() {
         return Ok(());
     }
+    tell_few(errors, serving.sync, serving.followers);
     let mut lines = RedoLines::new(errors, rt, terminals.errors, false);
     check_sound(rt, serving.dir, &mut lines)
 }

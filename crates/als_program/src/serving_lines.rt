@@ -1,8 +1,9 @@
 use crate::redo_lines::RedoLines;
+use crate::strangers::Strangers;
 use als_drive::Progress;
 use als_followers::{Notice, What};
 use als_primary::{Announces, BadToken, Refusal, Serving};
-use als_record::Lsn;
+use als_record::{FIRST_LSN, Lsn};
 use als_ship::Fault as SessionFault;
 use std::alloc::{AllocError, Global};
 use std::io::Write;
@@ -15,6 +16,9 @@ pub struct ServingLines<'a, W: Write, C> {
     redo: RedoLines<'a, W, C>,
     /// Which follower was refused last, and why. It asks again and again; the same is printed once.
     refused: Option<(IpAddr, SessionFault)>,
+    /// Who was reported that may not follow.
+    strangers: Strangers,
+    clock: &'a C,
 }
 
 impl<'a, W: Write, C: Clock> ServingLines<'a, W, C> {
@@ -23,6 +27,8 @@ impl<'a, W: Write, C: Clock> ServingLines<'a, W, C> {
         ServingLines {
             redo: RedoLines::new(errors, clock, seen, false),
             refused: None,
+            strangers: Strangers::new(),
+            clock,
         }
     }
 }
@@ -41,6 +47,12 @@ impl<W: Write, C: Clock> Announces for ServingLines<'_, W, C> {
             "primary of {dir} serves at {addr}: epoch {epoch}, LSN {}",
             end.0
         );
+        if end <= FIRST_LSN {
+            let _ = writeln!(
+                self.redo.errors(),
+                "als: {dir}: a new database: nothing was ever committed in it"
+            );
+        }
     }
 
     fn listens(&mut self, addr: SocketAddr, sync: u32) {
@@ -53,7 +65,7 @@ impl<W: Write, C: Clock> Announces for ServingLines<'_, W, C> {
     fn unconfirmed(&mut self, sync: u32, seconds: u64) {
         let _ = writeln!(
             self.redo.errors(),
-            "als: commits have waited for {seconds} s: {sync} standbys at different addresses have to acknowledge them"
+            "als: commits have waited for {seconds} s: {sync} standbys of different folders have to acknowledge them"
         );
     }
 
@@ -66,6 +78,11 @@ impl<W: Write, C: Clock> Announces for ServingLines<'_, W, C> {
         if refused.is_some() && refused == self.refused {
             return;
         }
+        if let (What::Stranger, Ok(now)) = (notice.what, self.clock.monotonic()) {
+            if !self.strangers.is_due(peer, now) {
+                return;
+            }
+        }
         self.refused = refused;
         let errors = self.redo.errors();
         let _ = match notice.what {
@@ -74,6 +91,10 @@ impl<W: Write, C: Clock> Announces for ServingLines<'_, W, C> {
             What::Went(fault) => writeln!(errors, "als: {peer} follows no more: {fault}"),
             What::Refused(fault) => writeln!(errors, "als: {peer} was refused: {fault}"),
             What::Stranger => writeln!(errors, "als: {peer} may not follow"),
+            What::Twin => writeln!(
+                errors,
+                "als: {peer} was hung up on: a standby with its folder's id follows"
+            ),
             What::Crowded => writeln!(errors, "als: {peer} was hung up on: 8 standbys follow"),
         };
     }

@@ -1,6 +1,6 @@
 -- What stands in a list, by recursion; and a list of different values is no longer than one that has them all.
 use Rattle.std.proofs.Common.{◌≡◌, ◌<◌, ◌≤◌, ◌⊎◌, ◌∙◌, ℕ, zero, suc, List, [], ◌∷◌, length, map, get_or, refl, sym, ap, subst, inl, inr, ⊎_elim, arith, Contains}
-use Rattle.std.specs.declared.net.ip_addr.IpAddr.{IpAddr}
+use Rattle.als_quorum.specs.declared.name.Name.{Name}
 use Rattle.als_quorum.specs.Enough.{AreDifferent}
 
 -- x is one of them
@@ -41,7 +41,7 @@ without (y ∷ ys) x (inr m) =
     let r = without ys x m in
     (y ∷ r.0, ap suc r.1, λ z h. ⊎_elim (λ f. inr (inl f)) (λ n. ⊎_elim (λ f. inl f) (λ k. inr (inr k)) (r.2 z n)) h)
 
-pub length-different : (xs ys : List IpAddr) → AreDifferent xs → ((x : IpAddr) → Among xs x → Among ys x) → length xs ≤ length ys
+pub length-different : (xs ys : List Name) → AreDifferent xs → ((x : Name) → Among xs x → Among ys x) → length xs ≤ length ys
 length-different [] ys d s = omega arith
 length-different (x ∷ xs) ys d s =
     let r = without ys x (s x (inl refl)) in

@@ -1,3 +1,4 @@
+pub mod Names
 pub mod Enough
 pub mod Rows
 pub mod Tallies

@@ -2,10 +2,12 @@ ghost use Rattle.std.specs.Prelude.{◌≡◌, ◌↔◌, IsTrue, IfOk};
 ghost use Rattle.als_callers.specs.Members.{Admits};
 ghost use Rattle.als_quorum.specs.Tallies.{IsTallyOf};
 
+use crate::folder_id::FolderId;
 use crate::member::Member;
 use crate::roll::{Roll, SEATS};
 use crate::row::Row;
 use crate::tally::Tally;
+use crate::wanted::Wanted;
 use als_callers::Allowed;
 use als_record::Lsn;
 use std::alloc::{AllocError, Global};
@@ -28,8 +30,8 @@ impl Drop for Held {
 
 impl Held {
     /// Whether a leader that wants `count` acknowledgements goes on waiting.
-    fn is_awaited(&self, allowed: &Allowed, count: u32, lsn: Lsn) -> bool {
-        !self.is_closed && !self.roll.has_enough(allowed, count, lsn)
+    fn is_awaited(&self, allowed: &Allowed, count: u32, wanted: Wanted) -> bool {
+        !self.is_closed && !self.roll.has_enough(allowed, count, wanted)
     }
 }
 
@@ -77,17 +79,18 @@ impl Quorum {
         self.allowed.admits(peer)
     }
 
-    /// Takes a free seat for the follower of a session, which has acknowledged nothing yet. None: no seat
-    /// is free.
-    pub fn join<R: Wait + Clock>(&self, rt: &R, peer: IpAddr) -> Option<u32> {
+    /// Takes a free seat for the follower of a session, which has acknowledged nothing yet, and whose folder
+    /// has this id, where it sent one. None: no seat is free, or the follower of a seat has that id.
+    pub fn join<R: Wait + Clock>(&self, rt: &R, peer: IpAddr, id: Option<FolderId>) -> Option<u32> {
         let now = now_of(rt);
-        self.held.lock(rt).roll.join(peer, now)
+        self.held.lock(rt).roll.join(peer, id, now)
     }
 
-    /// The follower of a seat has acknowledged the log up to there.
-    pub fn acknowledge<R: Wait + Clock>(&self, rt: &R, seat: u32, lsn: Lsn) {
+    /// The follower of a seat has acknowledged the log up to there, in its answer to a frame that was sent in this round
+    /// of the tail.
+    pub fn acknowledge<R: Wait + Clock>(&self, rt: &R, seat: u32, lsn: Lsn, round: u64) {
         let now = now_of(rt);
-        self.held.lock(rt).roll.acknowledge(seat, lsn, now);
+        self.held.lock(rt).roll.acknowledge(seat, lsn, round, now);
         self.changed.notify_all();
     }
 
@@ -96,29 +99,30 @@ impl Quorum {
         self.held.lock(rt).roll.leave(seat);
     }
 
-    /// Waits, at most this long, until `count` followers with different addresses, each of which counts,
-    /// have acknowledged the log up to there. Returns whether they have, by a roll that it looked at. Once
-    /// closed it does not wait.
+    /// Waits, at most this long, until `count` followers of different names, at addresses that count, have
+    /// acknowledged what is wanted: of different folders, or of different addresses where they sent no id. Returns
+    /// whether they have, by a roll that it looked at. Once closed it does not wait.
     pub fn wait_for<R: Wait + Clock>(
         &self,
         rt: &R,
         count: u32,
-        lsn: Lsn,
+        wanted: Wanted,
         at_most: Duration,
     ) -> Tally
-        ensures { IsTallyOf self.now.allowed.blocks.items count lsn.0 result }
+        ensures tally { IsTallyOf self.now.allowed.blocks.items count wanted.lsn.0 result }
+        ensures round { result.round ≡ wanted.round }
     {
         let held = self.held.lock(rt);
-        if !held.is_awaited(&self.allowed, count, lsn) {
-            return Tally::of(&held.roll, &self.allowed, count, lsn);
+        if !held.is_awaited(&self.allowed, count, wanted) {
+            return Tally::of(&held.roll, &self.allowed, count, wanted);
         }
         let (held, _) = self.changed.wait_timeout_while(
             rt,
             held,
             at_most,
-            |held| held.is_awaited(&self.allowed, count, lsn),
+            |held| held.is_awaited(&self.allowed, count, wanted),
         );
-        Tally::of(&held.roll, &self.allowed, count, lsn)
+        Tally::of(&held.roll, &self.allowed, count, wanted)
     }
 
     /// Wakes all waiting threads. Nothing waits any more.

@@ -17,7 +17,7 @@ use Rattle.als_writing.proofs.Moved.{moved-next, moved-none}
 use Rattle.als_writing.proofs.Committing.{Committed-transaction}
 use Rattle.als_writing.proofs.Fitting.{IsValidLog-transaction}
 use Rattle.als_renew.specs.Pages.{value_in, key_at, page_writes, written_by, page_records, IsUnwritten}
-use Rattle.als_renew.specs.Renewed.{Renews, IsWrittenBelow}
+use Rattle.als_renew.specs.Renewed.{IsWrittenBelow}
 use Rattle.als_renew.proofs.PageWrites.{other_page, none-below, fold-others, fold-own, all-keys}
 
 -- ---- no record
@@ -57,6 +57,14 @@ module _ (log : List Record) (none : unended log ≡ []) where
       let a : nat_lt (greatest_trans log) t ≡ true = lt-ltb (greatest_trans log) t above in
       let b : nat_lt (length (unended log)) 256 ≡ true = ap (λ (ts : List ℕ). nat_lt (length ts) 256) none in
       simp (a, b)
+
+-- where there is place for one more
+pub new-behind : (log : List Record) → length (unended log) < 256 → (t : ℕ) → greatest_trans log < t → is_new log t ≡ true
+unfolding is_new
+new-behind log few t above =
+    let a : nat_lt (greatest_trans log) t ≡ true = lt-ltb (greatest_trans log) t above in
+    let b : nat_lt (length (unended log)) 256 ≡ true = lt-ltb (length (unended log)) 256 few in
+    simp (a, b)
 
 -- ---- the greatest number
 
@@ -171,7 +179,7 @@ ended_none : unended [] ≡ []
 unfolding unended transactions
 ended_none = refl
 
-greatest_none : greatest_trans [] ≡ 0
+pub greatest_none : greatest_trans [] ≡ 0
 unfolding greatest_trans
 greatest_none = refl
 
@@ -184,14 +192,6 @@ IsWrittenBelow-none pages held = record {
   ended = ended_none;
   greatest = omega (arith, greatest_none);
   length_is = omega (arith, end-nil);
-}
-
--- a log of all pages
-pub Renews-all : (pages : ℕ) (held log : List Record) → IsWrittenBelow pages pages held log → Renews pages held log
-Renews-all pages held log b = record {
-  valid = b.valid;
-  seen = λ k is. b.seen k is.slot ∙ ap (λ c. cond c (value_in held k) None) (lt-ltb k.page pages is.page);
-  ended = b.ended;
 }
 
 -- where the next page goes

@@ -1,6 +1,12 @@
+mod Begun
+mod Carries
+mod Closing
+mod Doubting
 mod Doubts
 mod Fitting
 mod Generations
 mod PageWrites
+mod Raising
 mod Spelt
+mod Staying
 mod Written

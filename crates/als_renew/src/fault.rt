@@ -16,8 +16,8 @@ use std::{fmt, io};
 pub enum Fault {
     /// The old log can't be read to its end, the output failed, or an allocation failed.
     Look(LookFault),
-    /// A transaction of the old log is in doubt: it was prepared, and neither committed nor rolled
-    /// back.
+    /// A transaction of the old log is in doubt and can't be carried on: its number is that of a page's
+    /// transaction, or 256 are in doubt. It has to be decided first.
     InDoubt {
         /// The transaction.
         trans: TransId,

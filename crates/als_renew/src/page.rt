@@ -116,7 +116,7 @@ fn spell_value(key: Key, after: Image, place: &mut Place, piece: &mut Vec<u8>) -
 }
 
 /// The bytes of an image's value, 0 without one.
-fn value_len(image: &Image) -> usize
+pub(crate) fn value_len(image: &Image) -> usize
     ensures len { result ≡ image_len image.now }
     ensures most { result ≤ 31 }
     ensures fits { IsImage image.now }

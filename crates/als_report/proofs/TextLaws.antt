@@ -1,7 +1,7 @@
 -- Texts as lists of tokens, written a few at a time.
-use Rattle.std.specs.Prelude.{◌≡◌, ℕ, List, [], ◌∷◌, ◌++◌}
+use Rattle.std.specs.Prelude.{◌≡◌, ℕ, Bool, List, [], ◌∷◌, ◌++◌}
 use Rattle.std.proofs.Common.{ap, ◌∙◌, append_assoc}
-use Rattle.json.specs.Token.{Token, string}
+use Rattle.json.specs.Token.{Token, string, boolean}
 use Rattle.json.specs.Print.{print}
 use Rattle.als_report.specs.Followers.{number_tokens}
 
@@ -41,3 +41,7 @@ number_is end start name n m p q = p ∙ ap (λ (k : ℕ). start ++ number_token
 -- a text that is another name of the one that is written
 pub string_is : (end start : List Token) (s t : List ℕ) → end ≡ start ++ string s ∷ [] → s ≡ t → end ≡ start ++ string t ∷ []
 string_is end start s t p q = p ∙ ap (λ (k : List ℕ). start ++ string k ∷ []) q
+
+-- a truth that is another name of the one that is written
+pub flag_is : (end start : List Token) (b c : Bool) → end ≡ start ++ boolean b ∷ [] → b ≡ c → end ≡ start ++ boolean c ∷ []
+flag_is end start b c p q = p ∙ ap (λ (k : Bool). start ++ boolean k ∷ []) q

@@ -1,8 +1,9 @@
 -- Where a standby is never healthy.
 use Rattle.std.specs.Prelude.{◌≡◌, None, Some, true, false}
 use Rattle.std.proofs.Common.{refl}
+use Rattle.als_report.specs.declared.report.Report.{Report}
 use Rattle.als_report.specs.declared.state.State.TheVariants.{Waiting, Following, Refusing, Primary, Stopped, Committing, Unconfirmed}
-use Rattle.als_report.specs.Health.{is_sent_to, is_at_work, is_heard, is_prompt, takes_commits, has_few}
+use Rattle.als_report.specs.Health.{is_sent_to, is_at_work, is_heard, is_prompt, takes_commits, has_few, is_primary, is_standby, is_new, takeovers_left, transactions_left}
 
 stopped_is_not : is_sent_to Stopped ≡ false
 stopped_is_not = refl
@@ -56,3 +57,38 @@ many_are_few = refl
 
 too_many_are_not : has_few 200 ≡ false
 too_many_are_not = refl
+
+-- a client's commits are for the primary whose followers confirm them, for no other one, and for no standby
+committing_is_primary : (r : Report) → is_primary (record r { state = Committing }) ≡ true
+committing_is_primary r = refl
+
+unconfirmed_is_no_primary : (r : Report) → is_primary (record r { state = Unconfirmed }) ≡ false
+unconfirmed_is_no_primary r = refl
+
+following_is_no_primary : (r : Report) → is_primary (record r { state = Following }) ≡ false
+following_is_no_primary r = refl
+
+-- a primary is no standby, whatever else it reports, and a node to which none sends is none either
+committing_is_no_standby : (r : Report) → is_standby (record r { state = Committing }) (Some 1) ≡ false
+committing_is_no_standby r = refl
+
+waiting_is_no_standby : (r : Report) → is_standby (record r { state = Waiting }) (Some 1) ≡ false
+waiting_is_no_standby r = refl
+
+-- a log that ends behind its header holds no record
+header_is_new : (r : Report) → is_new (record r { end = record { 0 = 16 } }) ≡ true
+header_is_new r = refl
+
+one_record_is_not_new : (r : Report) → is_new (record r { end = record { 0 = 52 } }) ≡ false
+one_record_is_not_new r = refl
+
+-- with 31 takeovers one is left, with 32 none
+one_is_left : (r : Report) → takeovers_left (record r { epoch = Some 31 }) ≡ Some 1
+one_is_left r = refl
+
+none_is_left : (r : Report) → takeovers_left (record r { epoch = Some 32 }) ≡ Some 0
+none_is_left r = refl
+
+-- the last number leaves none
+none_is_numbered : (r : Report) → transactions_left (record r { greatest = Some 4294967295 }) ≡ Some 0
+none_is_numbered r = refl

@@ -2,7 +2,7 @@
 use Rattle.std.specs.Prelude.{ℕ, ◌-◌, ◌==◌, List, [], ◌∷◌, ◌++◌, length, flat_map, codes, decimal, if◌then◌else◌}
 use Rattle.std.specs.Net.Text.{ip_text}
 use Rattle.json.specs.Token.{Token, begin_object, end_object, begin_array, end_array, key, string, number, boolean}
-use Rattle.als_report.specs.Health.{takes_commits}
+use Rattle.als_report.specs.Health.{takes_commits, is_new}
 use Rattle.als_report.specs.declared.follower.Follower.{Follower}
 use Rattle.als_report.specs.declared.report.Report.{Report}
 use Rattle.als_report.specs.declared.work.Work.{Work}
@@ -52,9 +52,13 @@ followers_tokens acknowledged fs =
 unfoldable pub any_followers_tokens : ℕ → List Follower → List Token
 any_followers_tokens acknowledged fs = if length fs == 0 then [] else followers_tokens acknowledged fs
 
--- how many transactions are in doubt, and how many followers a commit waits for
+-- whether nothing was ever committed
+abbrev pub new_tokens : Report → List Token
+new_tokens r = key (codes "new") ∷ boolean (is_new r) ∷ []
+
+-- how many transactions are in doubt, how many followers a commit waits for, and whether nothing was ever committed
 unfoldable pub counts_tokens : Report → List Token
-counts_tokens r = number_tokens (codes "in_doubt") r.in_doubt ++ number_tokens (codes "sync") r.sync
+counts_tokens r = number_tokens (codes "in_doubt") r.in_doubt ++ (number_tokens (codes "sync") r.sync ++ new_tokens r)
 
 -- what a node that takes commits reports beside what every node does; of any other node those that follow it
 unfoldable pub primary_tokens : Report → List Token

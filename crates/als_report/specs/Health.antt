@@ -61,3 +61,31 @@ room_below (Some capacity) end = Some (capacity - end)
 
 abbrev pub room_of : Report → Option ℕ
 room_of r = room_below r.capacity r.end.0
+
+-- so many takeovers are left to a history with so many, of the 32 that it may have
+abbrev pub takeovers_below : Option ℕ → Option ℕ
+takeovers_below None = None
+takeovers_below (Some epoch) = Some (32 - epoch)
+
+abbrev pub takeovers_left : Report → Option ℕ
+takeovers_left r = takeovers_below r.epoch
+
+-- so many TransIDs are left above the greatest, of the 4,294,967,295 that there are
+abbrev pub transactions_below : Option ℕ → Option ℕ
+transactions_below None = None
+transactions_below (Some greatest) = Some (4294967295 - greatest)
+
+abbrev pub transactions_left : Report → Option ℕ
+transactions_left r = transactions_below r.greatest
+
+-- it takes commits of clients, and as many followers as have to confirm them do so now
+abbrev pub is_primary : Report → Bool
+is_primary r = is_committing r.state
+
+-- a primary sends to it, and it is healthy
+abbrev pub is_standby : Report → Option ℕ → Bool
+is_standby r commits = is_sent_to r.state && is_healthy r commits
+
+-- its log holds no record: nothing was ever committed
+abbrev pub is_new : Report → Bool
+is_new r = nat_le r.end.0 16

@@ -5,7 +5,7 @@ use Rattle.hex.specs.Hex.{encode_lower}
 use Rattle.als_record.specs.Spelling.{Image}
 use Rattle.als_view.specs.declared.answer.Answer.{Answer}
 use Rattle.als_report.specs.States.{name_of_state}
-use Rattle.als_report.specs.Health.{room_of, takes_commits}
+use Rattle.als_report.specs.Health.{room_of, takeovers_left, transactions_left, takes_commits}
 use Rattle.als_report.specs.Followers.{primary_tokens, number_tokens}
 use Rattle.als_report.specs.declared.refusals.Refusals.{Refusals}
 use Rattle.als_report.specs.declared.report.Report.{Report}
@@ -43,9 +43,11 @@ redo_tokens r commits =
     key (codes "pending") ∷ number (decimal r.pending) ∷ key (codes "leases") ∷ number (decimal r.leases)
     ∷ key (codes "commits") ∷ number_token commits ∷ key (codes "seconds_since_last_frame") ∷ number_token r.silence ∷ []
 
--- how much log there can be, and how much of it is left
+-- how much log there can be, how much of it is left, and how many takeovers and transactions
 abbrev pub room_tokens : Report → List Token
-room_tokens r = key (codes "capacity") ∷ number_token r.capacity ∷ key (codes "left") ∷ number_token (room_of r) ∷ []
+room_tokens r =
+    key (codes "capacity") ∷ number_token r.capacity ∷ key (codes "left") ∷ number_token (room_of r)
+    ∷ key (codes "takeovers_left") ∷ number_token (takeovers_left r) ∷ key (codes "transactions_left") ∷ number_token (transactions_left r) ∷ []
 
 -- how many were refused, and the number of the last refusal that has one
 abbrev pub refused_tokens : Refusals → List Token
@@ -63,10 +65,23 @@ status_tokens r commits =
     ∷ key (codes "pending") ∷ number (decimal r.pending) ∷ key (codes "leases") ∷ number (decimal r.leases)
     ∷ key (codes "commits") ∷ number_token commits ∷ key (codes "seconds_since_last_frame") ∷ number_token r.silence
     ∷ key (codes "capacity") ∷ number_token r.capacity ∷ key (codes "left") ∷ number_token (room_of r)
+    ∷ key (codes "takeovers_left") ∷ number_token (takeovers_left r) ∷ key (codes "transactions_left") ∷ number_token (transactions_left r)
     ∷ (primary_tokens r ++ (refusal_tokens r ++ (end_object ∷ [])))
 
+-- an object of one member, which is true or false
+abbrev pub flag_tokens : List ℕ → Bool → List Token
+flag_tokens name flag = begin_object ∷ key name ∷ boolean flag ∷ end_object ∷ []
+
 abbrev pub health_tokens : Bool → List Token
-health_tokens healthy = begin_object ∷ key (codes "healthy") ∷ boolean healthy ∷ end_object ∷ []
+health_tokens healthy = flag_tokens (codes "healthy") healthy
+
+-- whether clients may send it commits
+abbrev pub primary_flag_tokens : Bool → List Token
+primary_flag_tokens flag = flag_tokens (codes "primary") flag
+
+-- whether it is a healthy standby
+abbrev pub standby_flag_tokens : Bool → List Token
+standby_flag_tokens flag = flag_tokens (codes "standby") flag
 
 abbrev pub error_tokens : List ℕ → List Token
 error_tokens why = begin_object ∷ key (codes "error") ∷ string why ∷ end_object ∷ []

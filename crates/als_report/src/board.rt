@@ -9,7 +9,7 @@ use crate::reports::Reports;
 use crate::state::State;
 use crate::work_cells::WorkCells;
 use als_quorum::Member;
-use als_record::Lsn;
+use als_record::{Lsn, TransId};
 use arrayvec::ArrayVec;
 use std::alloc::Global;
 use std::sync::Arc;
@@ -36,6 +36,8 @@ pub struct Board {
     fault: AtomicU64,
     /// The epoch of its history, plus 1. 0: not known yet.
     epoch: AtomicU64,
+    /// The greatest TransID that a client was answered. 0: none was.
+    greatest: AtomicU64,
     /// What it committed for clients.
     work: WorkCells,
     /// How many transactions are in doubt.
@@ -64,6 +66,7 @@ impl Board {
             failures: AtomicU64::new(0),
             fault: AtomicU64::new(0),
             epoch: AtomicU64::new(0),
+            greatest: AtomicU64::new(0),
             work: WorkCells::new(),
             in_doubt: AtomicU64::new(0),
             sync: AtomicU64::new(0),
@@ -141,6 +144,11 @@ impl Board {
     /// Sets the epoch of the log's history.
     pub fn set_epoch(&self, epoch: u64) {
         self.epoch.store(epoch.saturating_add(1), Ordering::SeqCst);
+    }
+
+    /// A client was answered a transaction of this number, which is the greatest one.
+    pub fn note_number(&self, trans: TransId) {
+        self.greatest.store(u64::from(trans.0), Ordering::SeqCst);
     }
 
     /// A group of transactions was committed by one force, which took this long.
@@ -246,6 +254,7 @@ impl<C: Clock> Reports for Watch<C> {
             failures: board.failures.load(Ordering::SeqCst),
             last_fault: known(&board.fault),
             epoch: board.epoch.load(Ordering::SeqCst).checked_sub(1),
+            greatest: known(&board.greatest),
             work: board.work.work(),
             in_doubt: board.in_doubt.load(Ordering::SeqCst),
             sync: board.sync.load(Ordering::SeqCst),

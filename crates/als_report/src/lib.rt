@@ -49,8 +49,10 @@ pub use follower_row::FollowerRow;
 pub use metrics::{VERSION, metrics_text};
 pub use reading::{published, read};
 pub use refusals::Refusals;
-pub use report::{MOST_FOLLOWERS, MOST_IN_DOUBT, PATIENCE, QUIET, Report};
-pub use report_text::{health_text, status_text};
+pub use report::{
+    MOST_FOLLOWERS, MOST_IN_DOUBT, MOST_TAKEOVERS, MOST_TRANSACTIONS, PATIENCE, QUIET, Report,
+};
+pub use report_text::{health_text, primary_flag_text, standby_flag_text, status_text};
 pub use reports::Reports;
 pub use state::State;
 pub use unread::Unread;

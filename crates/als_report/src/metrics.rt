@@ -77,7 +77,8 @@ fn write_info(text: &mut String, report: &Report) -> Result<(), AllocError> {
     text.push_str("} 1\n")
 }
 
-/// Writes how long the log is, and how much room it has.
+/// Writes how long the log is, how much room it has, and how many takeovers and
+/// transactions are left.
 fn write_log(text: &mut String, report: &Report) -> Result<(), AllocError> {
     metric(
         text,
@@ -102,6 +103,18 @@ fn write_log(text: &mut String, report: &Report) -> Result<(), AllocError> {
         "als_log_left_bytes",
         "Bytes that the log still takes.",
         report.room(),
+    )?;
+    known(
+        text,
+        "als_takeovers_left",
+        "Takeovers that the history can still have.",
+        report.takeovers_left(),
+    )?;
+    known(
+        text,
+        "als_transactions_left",
+        "Transactions that the log can still have.",
+        report.transactions_left(),
     )
 }
 

@@ -2,7 +2,7 @@ ghost use Rattle.std.specs.Prelude.{◌≡◌, IfOk, OnOk, ◌++◌, ◌∷◌, 
 ghost use Rattle.std.specs.Net.Text.{ip_text};
 ghost use Rattle.json.specs.Token.{begin_array, key};
 ghost use Rattle.als_report.specs.Followers.{primary_tokens, work_tokens, followers_tokens};
-ghost use Rattle.als_report.specs.Followers.{any_followers_tokens, counts_tokens};
+ghost use Rattle.als_report.specs.Followers.{any_followers_tokens, counts_tokens, new_tokens};
 ghost use Rattle.als_report.specs.Followers.{follower_tokens, place_tokens, lag_tokens, session_tokens};
 
 use crate::follower::Follower;
@@ -45,14 +45,25 @@ pub(crate) fn write_primary(
     Ok(())
 }
 
-/// Writes how many transactions are in doubt, and how many followers a commit waits for.
-#[tactic(auto, unfolding(crate::specs::Followers::counts_tokens))]
+/// Writes how many transactions are in doubt, how many followers a commit waits for, and whether nothing was
+/// ever committed.
 fn write_counts(text: &mut Writer, report: &Report) -> Result<(), AllocError>
     ensures tokens { OnOk result (text.new.tokens ≡ text.old.tokens ++ counts_tokens report.now) }
     ensures before { OnOk result (text.new.before ≡ text.old.before) }
 {
     number(text, "in_doubt", report.in_doubt)?;
     number(text, "sync", report.sync)?;
+    write_new(text, report)?;
+    Ok(())
+}
+
+/// Writes whether nothing was ever committed.
+fn write_new(text: &mut Writer, report: &Report) -> Result<(), AllocError>
+    ensures tokens { OnOk result (text.new.tokens ≡ text.old.tokens ++ new_tokens report.now) }
+    ensures before { OnOk result (text.new.before ≡ text.old.before) }
+{
+    text.key("new")?;
+    text.boolean(report.is_new())?;
     Ok(())
 }
 

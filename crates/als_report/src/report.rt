@@ -1,11 +1,13 @@
 ghost use Rattle.std.specs.Prelude.{◌≡◌};
 ghost use Rattle.als_report.specs.Health.{is_recent, is_heard, is_prompt, is_healthy, room_of};
+ghost use Rattle.als_report.specs.Health.{takeovers_left, transactions_left};
+ghost use Rattle.als_report.specs.Health.{is_primary, is_standby, is_new};
 
 use crate::follower::Follower;
 use crate::refusals::Refusals;
 use crate::state::State;
 use crate::work::Work;
-use als_record::Lsn;
+use als_record::{FIRST_LSN, Lsn};
 use arrayvec::ArrayVec;
 
 /// Seconds for which a frame may wait for its acknowledgement before the node is not healthy.
@@ -20,6 +22,12 @@ pub const MOST_IN_DOUBT: u64 = 199;
 
 /// The most followers that a report has.
 pub const MOST_FOLLOWERS: usize = 8;
+
+/// The most takeovers that a history has.
+pub const MOST_TAKEOVERS: u64 = 32;
+
+/// The last TransID that there is.
+pub const MOST_TRANSACTIONS: u64 = 4_294_967_295;
 
 /// What a node reports of itself.
 #[derive(PartialEq, Drop)]
@@ -45,6 +53,8 @@ pub struct Report {
     pub last_fault: Option<u64>,
     /// The epoch of its history. None: not known yet.
     pub epoch: Option<u64>,
+    /// The greatest TransID that a client was answered. None: none was since its start.
+    pub greatest: Option<u64>,
     /// What it committed for clients.
     pub work: Work,
     /// How many transactions are in doubt.
@@ -73,6 +83,28 @@ impl Report {
         self.state.is_at_work() && is_prompt(self.waiting) && commits.is_some()
     }
 
+    /// Whether clients may send it commits: it takes them, and as many followers as have to confirm a commit
+    /// do so now.
+    pub fn is_primary(&self) -> bool
+        ensures { result ≡ is_primary self.now }
+    {
+        self.state.is_committing()
+    }
+
+    /// Whether it is a healthy standby: a primary sends to it, and else as for `is_healthy`.
+    pub fn is_standby(&self, commits: Option<u64>) -> bool
+        ensures { result ≡ is_standby self.now commits }
+    {
+        self.state.is_sent_to() && self.is_healthy(commits)
+    }
+
+    /// Whether its log holds no record: nothing was ever committed.
+    pub fn is_new(&self) -> bool
+        ensures { result ≡ is_new self.now }
+    {
+        self.end.0 <= FIRST_LSN.0
+    }
+
     /// Whether the primary that sends to it was heard within `QUIET`. Of a node to which none sends it is
     /// true.
     fn is_heard(&self) -> bool
@@ -87,6 +119,26 @@ impl Report {
     {
         match self.capacity {
             Some(capacity) => Some(capacity.saturating_sub(self.end.0)),
+            None => None,
+        }
+    }
+
+    /// How many takeovers its history can still have. None: not known yet.
+    pub fn takeovers_left(&self) -> Option<u64>
+        ensures { result ≡ takeovers_left self.now }
+    {
+        match self.epoch {
+            Some(epoch) => Some(MOST_TAKEOVERS.saturating_sub(epoch)),
+            None => None,
+        }
+    }
+
+    /// How many transactions its log can still have. None: not known yet.
+    pub fn transactions_left(&self) -> Option<u64>
+        ensures { result ≡ transactions_left self.now }
+    {
+        match self.greatest {
+            Some(greatest) => Some(MOST_TRANSACTIONS.saturating_sub(greatest)),
             None => None,
         }
     }

@@ -1,7 +1,8 @@
 ghost use Rattle.std.specs.Prelude.{◌≡◌, IfOk, OnOk, ◌++◌};
 ghost use Rattle.json.specs.Print.{print};
 ghost use Rattle.als_report.specs.Texts.{status_tokens, log_tokens, redo_tokens, room_tokens};
-ghost use Rattle.als_report.specs.Texts.{health_tokens, refusal_tokens, refused_tokens};
+ghost use Rattle.als_report.specs.Texts.{health_tokens, primary_flag_tokens, standby_flag_tokens};
+ghost use Rattle.als_report.specs.Texts.{flag_tokens, refusal_tokens, refused_tokens};
 
 use crate::members::{member, number};
 use crate::primary_text::write_primary;
@@ -70,13 +71,16 @@ fn write_redo(text: &mut Writer, report: &Report, commits: Option<u64>) -> Resul
     Ok(())
 }
 
-/// Writes the size of the log's device, and how much of it is left.
+/// Writes the size of the log's device, how much of it is left, and how many takeovers and
+/// transactions.
 fn write_room(text: &mut Writer, report: &Report) -> Result<(), AllocError>
     ensures tokens { OnOk result (text.new.tokens ≡ text.old.tokens ++ room_tokens report.now) }
     ensures before { OnOk result (text.new.before ≡ text.old.before) }
 {
     member(text, "capacity", report.capacity)?;
     member(text, "left", report.room())?;
+    member(text, "takeovers_left", report.takeovers_left())?;
+    member(text, "transactions_left", report.transactions_left())?;
     Ok(())
 }
 
@@ -105,22 +109,43 @@ fn write_refused(text: &mut Writer, refusals: &Refusals) -> Result<(), AllocErro
 }
 
 /// Whether a node is healthy, as JSON.
-#[tactic(auto, using(crate::proofs::TextLaws::printed))]
 pub fn health_text(alloc: Global, healthy: bool) -> Result<Vec<u8>, AllocError>
     ensures { IfOk result (λ text. text.items ≡ print (health_tokens healthy)) }
 {
+    flag_text(alloc, "healthy", healthy)
+}
+
+/// Whether clients may send a node commits, as JSON.
+pub fn primary_flag_text(alloc: Global, is_primary: bool) -> Result<Vec<u8>, AllocError>
+    ensures { IfOk result (λ text. text.items ≡ print (primary_flag_tokens is_primary)) }
+{
+    flag_text(alloc, "primary", is_primary)
+}
+
+/// Whether a node is a healthy standby, as JSON.
+pub fn standby_flag_text(alloc: Global, is_standby: bool) -> Result<Vec<u8>, AllocError>
+    ensures { IfOk result (λ text. text.items ≡ print (standby_flag_tokens is_standby)) }
+{
+    flag_text(alloc, "standby", is_standby)
+}
+
+/// An object of one member, which is true or false.
+#[tactic(auto, using(crate::proofs::TextLaws::printed))]
+fn flag_text(alloc: Global, name: &str, flag: bool) -> Result<Vec<u8>, AllocError>
+    ensures { IfOk result (λ text. text.items ≡ print (flag_tokens name.now flag)) }
+{
     let mut text = Writer::new(Vec::new(alloc));
-    write_health(&mut text, healthy)?;
+    write_flag(&mut text, name, flag)?;
     Ok(text.into_inner())
 }
 
-fn write_health(text: &mut Writer, healthy: bool) -> Result<(), AllocError>
-    ensures tokens { OnOk result (text.new.tokens ≡ text.old.tokens ++ health_tokens healthy) }
+fn write_flag(text: &mut Writer, name: &str, flag: bool) -> Result<(), AllocError>
+    ensures tokens { OnOk result (text.new.tokens ≡ text.old.tokens ++ flag_tokens name.now flag) }
     ensures before { OnOk result (text.new.before ≡ text.old.before) }
 {
     text.begin_object()?;
-    text.key("healthy")?;
-    text.boolean(healthy)?;
+    text.key(name)?;
+    text.boolean(flag)?;
     text.end_object()?;
     Ok(())
 }

@@ -1,6 +1,6 @@
 ghost use Rattle.std.specs.Prelude.{◌≡◌};
 ghost use Rattle.als_report.specs.States.{number_of_state, state_of_number, name_of_state, role_of_state};
-ghost use Rattle.als_report.specs.Health.{is_sent_to, is_at_work, takes_commits};
+ghost use Rattle.als_report.specs.Health.{is_sent_to, is_committing, is_at_work, takes_commits};
 
 /// What a node is doing.
 #[derive(Clone, Copy, Debug, PartialEq, Eq)]
@@ -71,7 +71,14 @@ impl State {
     pub fn is_at_work(self) -> bool
         ensures { result ≡ is_at_work self }
     {
-        self.is_sent_to() || matches!(self, State::Committing)
+        self.is_sent_to() || self.is_committing()
+    }
+
+    /// Whether it commits for clients, and as many followers as have to confirm a commit do so now.
+    pub fn is_committing(self) -> bool
+        ensures { result ≡ is_committing self }
+    {
+        matches!(self, State::Committing)
     }
 
     /// Whether it takes transactions of clients, confirmed or not.

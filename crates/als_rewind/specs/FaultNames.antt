@@ -6,7 +6,7 @@ use Rattle.als_folder.specs.declared.trouble.Trouble.{Trouble}
 use Rattle.als_lookback.specs.FaultNames.{kind_of as look_kind_of, trouble_of as look_trouble_of}
 use Rattle.als_operate.specs.FaultNames.{kind_of as node_kind_of, trouble_of as node_trouble_of}
 use Rattle.als_rewind.specs.declared.fault.Fault.{Fault}
-use Rattle.als_rewind.specs.declared.fault.Fault.TheVariants.{Look, Node, NoBoundary, NoRoom, Kept}
+use Rattle.als_rewind.specs.declared.fault.Fault.TheVariants.{Look, Node, NoBoundary, NoRoom, Kept, Loses}
 
 abbrev pub kind_of : Fault → FaultKind
 kind_of (Look fault) = look_kind_of fault
@@ -14,6 +14,7 @@ kind_of (Node fault) = node_kind_of fault
 kind_of (NoBoundary below) = kind.BadConfig
 kind_of NoRoom = kind.LogFull
 kind_of Kept = kind.Stream
+kind_of (Loses commits) = kind.BadConfig
 
 abbrev pub trouble_of : Fault → Option Trouble
 trouble_of (Look fault) = look_trouble_of fault
@@ -21,3 +22,4 @@ trouble_of (Node fault) = node_trouble_of fault
 trouble_of (NoBoundary below) = None
 trouble_of NoRoom = None
 trouble_of Kept = None
+trouble_of (Loses commits) = None

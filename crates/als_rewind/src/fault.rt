@@ -30,6 +30,11 @@ pub enum Fault {
     NoRoom,
     /// The file that is to keep the rest of the log is there, and has something else.
     Kept,
+    /// Commits would be lost, and nobody said that these are so many.
+    Loses {
+        /// How many.
+        commits: u64,
+    },
 }
 
 impl Fault {
@@ -43,6 +48,7 @@ impl Fault {
             Fault::NoBoundary { below: _ } => FaultKind::BadConfig,
             Fault::NoRoom => FaultKind::LogFull,
             Fault::Kept => FaultKind::Stream,
+            Fault::Loses { commits: _ } => FaultKind::BadConfig,
         }
     }
 
@@ -53,7 +59,10 @@ impl Fault {
         match self {
             Fault::Look(fault) => fault.trouble(),
             Fault::Node(fault) => fault.trouble(),
-            Fault::NoBoundary { below: _ } | Fault::NoRoom | Fault::Kept => None,
+            Fault::NoBoundary { below: _ }
+            | Fault::NoRoom
+            | Fault::Kept
+            | Fault::Loses { commits: _ } => None,
         }
     }
 

@@ -5,6 +5,7 @@ use crate::control::say_front;
 use crate::fault::Fault;
 use crate::judging::{Judged, check_control, judge, of_control, open_log};
 use crate::keeping::keep_past;
+use crate::losing::{Loses, check_agreed, counted};
 use als_ckpt::forget_checkpoint;
 use als_disk::{FileDisk, FirstError};
 use als_drive::{Progress, recover_telling};
@@ -14,7 +15,7 @@ use als_operate::{Fault as NodeFault, PENDING, named, reopen, settle};
 use als_progress::Advance;
 use als_record::Lsn;
 use std::fs::{self, File};
-use std::io::{self, Write};
+use std::io::{self, Read, Write};
 use std::path::PathBuf;
 use std::rt::Files;
 use std::sync::Wait;
@@ -22,22 +23,25 @@ use std::sync::Wait;
 /// Takes the node of a folder back to an LSN of its own log, so that it follows a node whose history
 /// goes on from there or later. What its log has above is kept in a file beside the folder first. It
 /// then prints `end=E ack=A past=B`: where the log ends now, up to where it is acknowledged, and how
-/// many bytes were kept. It may be called again after a stop. `progress` receives how far it has come.
+/// many bytes were kept. It may be called again after a stop. `progress` receives how far it has come, and
+/// which commits are lost, before anything is written.
 ///
+/// Loses: the log has commits behind the LSN, and `agreed` is not how many. Nothing was written.
 /// Look: the log is not sound up to the LSN, or that is within its header or past its end; a file
 /// beside the folder or the output failed; or an allocation failed. NoBoundary: no record ends at the
 /// LSN. NoRoom: the log up to there has no room for its reserve. Kept: the file that would keep the
 /// rest has something else. Node: the folder or a file of it failed, another program has it, or its
 /// node is refused. Nothing of the folder was written, but with Node.
-pub fn rewind<R: AllocGlobal + Files<File = File> + Wait, P: Progress + Advance, O: Write>(
+pub fn rewind<R: AllocGlobal + Files<File = File> + Wait, P: Progress + Advance + Loses, O: Write>(
     rt: &R,
     dir: &str,
     to: Lsn,
+    agreed: Option<u64>,
     progress: &mut P,
     output: &mut O,
 ) -> Result<(), Fault> {
     let folder = Folder::hold(rt, dir)?;
-    match rewind_in(rt, &folder, dir, to, progress, output) {
+    match rewind_in(rt, &folder, dir, to, agreed, progress, output) {
         Ok(()) => Ok(()),
         Err(Fault::Node(fault)) => Err(Fault::Node(named(&folder, fault))),
         Err(fault) => Err(fault),
@@ -45,16 +49,22 @@ pub fn rewind<R: AllocGlobal + Files<File = File> + Wait, P: Progress + Advance,
 }
 
 /// The same in a folder that is held.
-fn rewind_in<R: AllocGlobal + Files<File = File> + Wait, P: Progress + Advance, O: Write>(
+fn rewind_in<R: AllocGlobal + Files<File = File> + Wait, P: Progress + Advance + Loses, O: Write>(
     rt: &R,
     folder: &Folder,
     dir: &str,
     to: Lsn,
+    agreed: Option<u64>,
     progress: &mut P,
     output: &mut O,
 ) -> Result<(), Fault> {
     let judged = judge(rt, folder, dir, to, progress)?;
     let end = judged.state.mark;
+    let is_primary = folder.role(rt)?.is_some();
+    let losses = counted(rt.alloc(), open_log(rt, dir)?.take(end.0), to, is_primary)?;
+    progress.loses(&losses);
+    check_agreed(losses.past.count, agreed)?;
+    drop(losses);
     keep_past(rt, dir, open_log(rt, dir)?, to, end, progress)?;
     lay_out_pages(rt, folder, judged)?;
     // Before its log is shorter nobody may write it as a primary any more.

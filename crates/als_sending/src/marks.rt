@@ -17,6 +17,11 @@ pub trait Marks {
         ensures heard { heard self.new ≡ heard self.old }
         ensures begun { Appends (begun self.old) (begun self.new) (from.0 ∷ []) };
 
+    /// A frame with log bytes is sent to it now. It answers frames in the order in which they were sent.
+    fn send(&mut self)
+        ensures heard { heard self.new ≡ heard self.old }
+        ensures begun { Keeps (begun self.old) (begun self.new) };
+
     /// It answered a frame: it holds each log byte below this LSN on its devices.
     fn acknowledge(&mut self, lsn: Lsn)
         ensures heard { heard self.new ≡ heard self.old ++ lsn.0 ∷ [] }

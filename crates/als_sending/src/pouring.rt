@@ -38,7 +38,7 @@ pub(crate) fn pour<G: Growing, M: Marks, R: Read, W: Write>(
     ensures pages { G.pages log.new ≡ G.pages log.old }
     ensures fails { IfErr result (λ f. FailsToPour f (R.remaining reader.old)) }
 {
-    greet(log, way, room, writer)?;
+    greet(log, marks, way, room, writer)?;
     for _ in 0..u64::MAX {
         if !turn(log, marks, way, room, reader, writer)? {
             close(marks, way, reader, writer)?;
@@ -50,8 +50,9 @@ pub(crate) fn pour<G: Growing, M: Marks, R: Read, W: Write>(
 
 /// Where there is nothing new for the follower, it is sent a byte that it has, so that it is answered
 /// at once. A log that does not beat sends nothing, and is waited for.
-fn greet<G: Growing, W: Write>(
+fn greet<G: Growing, M: Marks, W: Write>(
     log: &mut G,
+    marks: &mut M,
     way: &mut Way,
     room: &mut [u8],
     writer: &mut W,
@@ -66,6 +67,8 @@ fn greet<G: Growing, W: Write>(
         (G.reads log.old) (G.reads log.new) heard heard asked (W.contents writer.old)
         (W.contents writer.new)) }
     ensures is { IsWay way.new (G.shown log.new) }
+    ensures heard { M.heard marks.new ≡ M.heard marks.old }
+    ensures begun { Keeps (M.begun marks.old) (M.begun marks.new) }
     ensures shown { G.shown log.new ≡ G.shown log.old }
     ensures seals { G.seals log.new ≡ G.seals log.old }
     ensures pages { G.pages log.new ≡ G.pages log.old }
@@ -74,7 +77,7 @@ fn greet<G: Growing, W: Write>(
     if way.at < way.end || !log.beats() {
         return Ok(());
     }
-    beat(log, way, room, writer)?;
+    beat(log, marks, way, room, writer)?;
     Ok(())
 }
 

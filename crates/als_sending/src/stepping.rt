@@ -19,9 +19,11 @@ use als_ship::{Fault, PIECE_LIMIT};
 use als_wire::{Fault as WireFault, read_acknowledged, write_data};
 use std::io::{Read, Write};
 
-/// Reads the bytes from an offset on, as many as there is room for, and sends them.
-fn send<G: Growing, W: Write>(
+/// Reads the bytes from an offset on, as many as there is room for, and sends them. That they are sent is noted
+/// behind the read and in front of the sending.
+fn send<G: Growing, M: Marks, W: Write>(
     log: &mut G,
+    marks: &mut M,
     writer: &mut W,
     epoch: u32,
     at: u64,
@@ -33,19 +35,23 @@ fn send<G: Growing, W: Write>(
         (G.reads log.new) (W.contents writer.old) (W.contents writer.new)) }
     ensures part { OnErr result (SendsPart epoch at (G.reads log.old) (G.reads log.new)
         (W.contents writer.old) (W.contents writer.new)) }
+    ensures heard { M.heard marks.new ≡ M.heard marks.old }
+    ensures begun { Keeps (M.begun marks.old) (M.begun marks.new) }
     ensures shown { G.shown log.new ≡ G.shown log.old }
     ensures seals { G.seals log.new ≡ G.seals log.old }
     ensures pages { G.pages log.new ≡ G.pages log.old }
     ensures fails { IfErr result (λ f. f ≡ fault.Stream) }
 {
     log.read_at(at, room)?;
+    marks.send();
     write_data(writer, epoch, at, room)?;
     Ok(())
 }
 
 /// Sends the next piece of the log.
-fn forward<G: Growing, W: Write>(
+fn forward<G: Growing, M: Marks, W: Write>(
     log: &mut G,
+    marks: &mut M,
     way: &mut Way,
     room: &mut [u8],
     writer: &mut W,
@@ -61,13 +67,22 @@ fn forward<G: Growing, W: Write>(
         (G.reads log.old) (G.reads log.new) heard heard asked (W.contents writer.old)
         (W.contents writer.new)) }
     ensures is { IsWay way.new (G.shown log.new) }
+    ensures heard { M.heard marks.new ≡ M.heard marks.old }
+    ensures begun { Keeps (M.begun marks.old) (M.begun marks.new) }
     ensures shown { G.shown log.new ≡ G.shown log.old }
     ensures seals { G.seals log.new ≡ G.seals log.old }
     ensures pages { G.pages log.new ≡ G.pages log.old }
     ensures fails { IfErr result (λ f. f ≡ fault.Stream) }
 {
     let len = (way.end - way.at).min(PIECE_LIMIT as u64);
-    send(log, writer, way.epoch, way.at, &mut room[..len as usize])?;
+    send(
+        log,
+        marks,
+        writer,
+        way.epoch,
+        way.at,
+        &mut room[..len as usize],
+    )?;
     way.at += len;
     way.ahead += 1;
     Ok(())
@@ -75,8 +90,9 @@ fn forward<G: Growing, W: Write>(
 
 /// Sends the byte before the position once more, if there is one: the follower has it, and answers it
 /// all the same. So both ends know that the other one is there.
-pub(crate) fn beat<G: Growing, W: Write>(
+pub(crate) fn beat<G: Growing, M: Marks, W: Write>(
     log: &mut G,
+    marks: &mut M,
     way: &mut Way,
     room: &mut [u8],
     writer: &mut W,
@@ -91,6 +107,8 @@ pub(crate) fn beat<G: Growing, W: Write>(
         (G.reads log.old) (G.reads log.new) heard heard asked (W.contents writer.old)
         (W.contents writer.new)) }
     ensures is { IsWay way.new (G.shown log.new) }
+    ensures heard { M.heard marks.new ≡ M.heard marks.old }
+    ensures begun { Keeps (M.begun marks.old) (M.begun marks.new) }
     ensures shown { G.shown log.new ≡ G.shown log.old }
     ensures seals { G.seals log.new ≡ G.seals log.old }
     ensures pages { G.pages log.new ≡ G.pages log.old }
@@ -99,7 +117,7 @@ pub(crate) fn beat<G: Growing, W: Write>(
     if way.at == 0 {
         return Ok(());
     }
-    send(log, writer, way.epoch, way.at - 1, &mut room[..1])?;
+    send(log, marks, writer, way.epoch, way.at - 1, &mut room[..1])?;
     way.ahead += 1;
     Ok(())
 }
@@ -140,8 +158,9 @@ fn take_answer<M: Marks, R: Read>(marks: &mut M, way: &mut Way, reader: &mut R) 
 
 /// Waits for the log to grow. Answers whether more of it may come: none does where it ends, nor where it did not
 /// grow for a beat and does not beat.
-fn wait<G: Growing, W: Write>(
+fn wait<G: Growing, M: Marks, W: Write>(
     log: &mut G,
+    marks: &mut M,
     way: &mut Way,
     room: &mut [u8],
     writer: &mut W,
@@ -157,6 +176,8 @@ fn wait<G: Growing, W: Write>(
         (W.contents writer.new)) }
     ensures is { OnOk result (IsWay way.new (G.shown log.new)) }
     ensures ends { IfOk result (λ more. more ≡ false → way.new ≡ way.old) }
+    ensures heard { M.heard marks.new ≡ M.heard marks.old }
+    ensures begun { Keeps (M.begun marks.old) (M.begun marks.new) }
     ensures rises { G.shown log.old ≤ G.shown log.new }
     ensures seals { G.seals log.new ≡ G.seals log.old }
     ensures pages { G.pages log.new ≡ G.pages log.old }
@@ -168,7 +189,7 @@ fn wait<G: Growing, W: Write>(
             Ok(true)
         }
         Grown::Beat if log.beats() => {
-            beat(log, way, room, writer)?;
+            beat(log, marks, way, room, writer)?;
             Ok(true)
         }
         Grown::Beat | Grown::Ends => Ok(false),
@@ -203,7 +224,7 @@ pub(crate) fn turn<G: Growing, M: Marks, R: Read, W: Write>(
     ensures fails { IfErr result (λ f. FailsToPour f (R.remaining reader.old)) }
 {
     if way.at < way.end && way.ahead < way.window {
-        forward(log, way, room, writer)?;
+        forward(log, marks, way, room, writer)?;
         return Ok(true);
     }
     if way.ahead > 0 {
@@ -211,6 +232,6 @@ pub(crate) fn turn<G: Growing, M: Marks, R: Read, W: Write>(
         way.end = log.end()?;
         return Ok(true);
     }
-    let more = wait(log, way, room, writer)?;
+    let more = wait(log, marks, way, room, writer)?;
     Ok(more)
 }

@@ -1,6 +1,5 @@
 -- How the sessions ended, one after another.
-use Rattle.std.specs.Prelude.{◌≡◌, ℕ, List, [], ◌∷◌, ◌++◌, Option, Some, None, Result, Ok, Err, false, true}
-use Rattle.std.specs.List.{AllByRecursion}
+use Rattle.std.specs.Prelude.{◌≡◌, ℕ, List, [], ◌∷◌, Option, Some, None, Result, Err, false, true}
 use Rattle.std.proofs.Common.{refl, sym, ap, ◌∙◌}
 use Rattle.std.proofs.lemmas.Bool.{true≢false}
 use Rattle.als_ship.specs.declared.fault.Fault.{Fault as SessionFault}
@@ -10,7 +9,7 @@ use Rattle.als_operate.specs.declared.fault.Fault.TheVariants.{Memory, Stream, F
 use Rattle.als_operate.specs.FaultNames.{kind_of}
 use Rattle.als_service.specs.Endings.{is_final, ends_it}
 use Rattle.als_service.specs.Losses.{IsLost}
-use Rattle.als_service.specs.Sessions.{Session, begins, ends, refuses, EndsOne, GoesOnAll, EndsLast, GoesOn}
+use Rattle.als_service.specs.Sessions.{Session, begins, ends, refuses, EndsOne, GoesOnAll, EndsLast}
 
 -- one that began, and then ended so
 pub ends_one : (ended : Option (Result (Unit {0}) Fault)) (told after : Option (List ℕ)) (start came gone : List Session)

@@ -2,3 +2,4 @@ pub mod Chains
 pub mod Endings
 pub mod Vouched
 pub mod ReadLaws
+pub mod Parting

@@ -4,3 +4,5 @@ pub mod Endings
 pub mod Sessions
 pub mod Met
 pub mod Inquiries
+pub mod Patience
+pub mod Leading

@@ -34,8 +34,14 @@ mod ending;
 mod met;
 // What a primary was asked and answered, for clauses alone.
 mod inquiries;
+// What is seen of the held log.
+mod standing;
+// How long an answer may take.
+mod patience;
 // What a primary is asked about the held log.
 mod comparing;
+// What it is asked about how that begins.
+mod front;
 // The connections to a primary, one after another.
 mod primaries;
 // The next session.
@@ -52,7 +58,11 @@ mod onlookers;
 mod sent_to;
 // The sessions of its own followers.
 mod shipping;
-// The folder of a standby, held.
+// What a primary has to say before a folder is opened.
+mod leading;
+// What answers before a folder is opened.
+mod waiting_room;
+// The folder of a standby, held and opened once.
 mod holding_on;
 // The standby of a folder.
 mod standing_by;

@@ -8,8 +8,7 @@ use std::rt::Files;
 use std::time::Clock;
 
 /// Passes on what a standby reports. Whenever bytes come, and once a second at most, it looks whether the
-/// files of the folder still have their names: if not, the next force fails, and nothing is acknowledged. A
-/// new database is in the folder before the first bytes come.
+/// files of the folder still have their names: if not, the next force fails, and nothing is acknowledged.
 pub(crate) struct Named<'a, P, R> {
     pub inner: &'a mut P,
     pub names: NameWatch,
@@ -37,6 +36,10 @@ impl<P: Progress, R: Drop> Progress for Named<'_, P, R> {
 impl<P: Outages, R: Files<File = File> + Clock + Drop> Outages for Named<'_, P, R> {
     fn outage(&mut self, fault: Option<Fault>, millis: u64) {
         self.inner.outage(fault, millis);
+    }
+
+    fn unopened(&mut self, fault: Fault, millis: u64) {
+        self.inner.unopened(fault, millis);
     }
 
     fn refusal(&mut self, fault: Fault, millis: u64) {

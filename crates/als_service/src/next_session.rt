@@ -102,7 +102,7 @@ fn follow_one<
     let begun = moment(rt);
     match primaries.next() {
         Ok((reader, writer)) => {
-            tell_uncompared(primaries, &mut notices);
+            tell_uncompared(rt, primaries, &mut notices);
             let Followed {
                 engine,
                 reader,
@@ -137,13 +137,14 @@ fn follow_one<
     }
 }
 
-/// Says, once, that the primary did not answer what log it has.
-pub(crate) fn tell_uncompared<S: Read + Write, L: Primaries<S>, N: Outages + Drop>(
+/// Says that the primary did not answer what log it has, and is followed all the same.
+pub(crate) fn tell_uncompared<C: Clock, S: Read + Write, L: Primaries<S>, N: Outages + Drop>(
+    clock: &C,
     primaries: &L,
     notices: &mut Notices<N>,
 ) {
     if primaries.was_unanswered() {
-        notices.uncompared();
+        notices.uncompared(clock);
     }
 }
 
@@ -209,13 +210,18 @@ fn stands<E: Events>(events: &E)
 }
 
 /// The time of a clock, where it can be read.
-fn moment<C: Clock>(clock: &C) -> Option<Duration> {
+pub(crate) fn moment<C: Clock>(clock: &C) -> Option<Duration> {
     clock.monotonic().ok()
+}
+
+/// Whether a session ended by its other end.
+pub(crate) fn is_hung_up(ended: Result<(), Fault>) -> bool {
+    matches!(ended, Err(Fault::Session(SessionFault::Cut)))
 }
 
 /// Whether a connection over which nothing came was ended by the other end, and that at once: it may
 /// also be one that was silent for too long.
-fn is_hang_up(
+pub(crate) fn is_hang_up(
     ended: Option<Result<(), Fault>>,
     begun: Option<Duration>,
     now: Option<Duration>,

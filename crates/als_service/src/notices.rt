@@ -18,6 +18,7 @@ pub(crate) struct Notices<N: Drop> {
     outages: N,
     outage: Minute,
     hang_up: Minute,
+    uncompared: Minute,
     refusal: Minute,
     refused: Option<Fault>,
     full: NearlyFull,
@@ -38,6 +39,7 @@ impl<N: Drop> Notices<N> {
             outages,
             outage: Minute { told: None },
             hang_up: Minute { told: None },
+            uncompared: Minute { told: None },
             refusal: Minute { told: None },
             refused: None,
             full: NearlyFull::NEVER,
@@ -54,14 +56,28 @@ impl<N: Outages + Drop> Notices<N> {
         }
     }
 
+    /// Reports, where it is time, that no primary has answered yet.
+    pub fn unopened<C: Clock>(&mut self, clock: &C, fault: Fault, millis: u64) {
+        if self.outage.is_due(clock) {
+            self.outages.unopened(fault, millis);
+        }
+    }
+
     /// Bytes came from the primary.
     pub fn bytes_came(&mut self) {
         self.outages.bytes_came();
     }
 
-    /// Reports that the primary did not answer what log it has.
-    pub fn uncompared(&mut self) {
-        self.outages.uncompared();
+    /// Reports, where it is time, that the primary did not answer what log it has.
+    pub fn uncompared<C: Clock>(&mut self, clock: &C) {
+        if self.uncompared.is_due(clock) {
+            self.outages.uncompared();
+        }
+    }
+
+    /// Reports a connection that was ended before anything came, where no other one follows.
+    pub fn hung_up(&mut self) {
+        self.outages.hang_ups(1);
     }
 
     /// Reports, where it is time or this fault is another one, what is refused.

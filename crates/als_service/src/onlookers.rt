@@ -36,7 +36,9 @@ impl<R: Wait + Clock> Onlookers<R> {
         for _ in self.rt.forever() {
             self.board.set_seats(&self.quorum.members(&self.rt));
             let moment = Duration::from_millis(MOMENT);
-            if self.tail.wait_past(&self.rt, u64::MAX, moment).is_closed {
+            let round = self.tail.round(&self.rt);
+            let reach = self.tail.wait_past(&self.rt, u64::MAX, round, moment);
+            if reach.is_closed {
                 break;
             }
         }

@@ -7,13 +7,20 @@ pub trait Outages {
     /// started). The primary is asked again after so many milliseconds.
     fn outage(&mut self, fault: Option<Fault>, millis: u64);
 
+    /// No primary has answered yet, for this reason, and nothing of the folder is opened or laid out before one has. It
+    /// is asked again after so many milliseconds.
+    fn unopened(&mut self, fault: Fault, millis: u64) {
+        self.outage(Some(fault), millis);
+    }
+
     /// What the primary sent is refused for this reason. It is asked again after so many milliseconds.
     fn refusal(&mut self, fault: Fault, millis: u64);
 
-    /// So many connections in a row were ended at once, before anything came over them.
+    /// So many connections in a row were ended before anything came over them.
     fn hang_ups(&mut self, count: u32);
 
-    /// The primary was asked whether its log is the held one, and did not answer. It is followed all the same.
+    /// The primary was asked whether its log is the held one, and did not answer. It is followed all the same, as the
+    /// caller asked for. Reported once a minute at most.
     fn uncompared(&mut self);
 
     /// The log ends there, and nine tenths of the bytes of its device are used, or more.
@@ -26,6 +33,10 @@ pub trait Outages {
 impl<N: Outages> Outages for &mut N {
     fn outage(&mut self, fault: Option<Fault>, millis: u64) {
         (**self).outage(fault, millis);
+    }
+
+    fn unopened(&mut self, fault: Fault, millis: u64) {
+        (**self).unopened(fault, millis);
     }
 
     fn refusal(&mut self, fault: Fault, millis: u64) {

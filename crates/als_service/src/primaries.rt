@@ -1,12 +1,11 @@
-ghost use Rattle.std.specs.Prelude.{◌≡◌, List, IfOk, IfErr};
+ghost use Rattle.std.specs.Prelude.{◌≡◌, None, List, IfOk, IfErr, OnOk};
+ghost use Rattle.als_service.specs.Inquiries.{inquiries_of, MayBegin};
 ghost use Rattle.als_service.specs.Sessions.{Session, begins, ends, refuses};
 ghost use Rattle.als_service.specs.Met.{sessions_of};
 
 use crate::comparing::Comparing;
 use crate::met::Met;
-use als_folder::Folder;
-use als_operate::{Fault, Following, Line, call, dial};
-use als_report::Watch;
+use als_operate::{Fault, Following, Introducing, Line};
 use std::fs::File;
 use std::io::{Read, Write};
 use std::net::{Net, OpenStream};
@@ -24,7 +23,7 @@ pub trait Primaries<S: Read + Write> {
             ≡ begins (S.contents streams.1) (met self.old)) }
         ensures none { IfErr result (λ fault. met self.new ≡ refuses fault (met self.old)) };
 
-    /// Whether the primary was asked, for the first time in vain, whether its log is the held one.
+    /// Whether the primary was asked in vain whether its log is the held one, and is followed all the same.
     fn was_unanswered(&self) -> bool {
         false
     }
@@ -34,16 +33,19 @@ pub trait Primaries<S: Read + Write> {
         ensures ends { met self.new ≡ ends (S.contents writer) ended (met self.old) };
 }
 
+/// A connection, to be read and to be written.
+pub(crate) type Lines<S> = (Line<S>, Line<S>);
+
 /// The connections to the primary of a standby.
 pub(crate) struct Dialled<'a, R: Net + Clock> {
     rt: &'a R,
     following: Following<'a>,
-    /// The folder, as long as it has no database: it has one once a primary has answered.
-    unkept: Option<&'a Folder>,
     /// The first connection, where it stands.
-    greeted: Option<(Line<R::Stream>, Line<R::Stream>)>,
+    greeted: Option<Lines<R::Stream>>,
     /// The held log, which it is asked about.
     comparing: Comparing<R>,
+    /// Says which folder it is, in front of each session.
+    introducing: Introducing,
     met: Met<Line<R::Stream>>,
 }
 
@@ -52,73 +54,64 @@ impl<R: Net + Clock + Drop> Drop for Dialled<'_, R> {
         let Dialled {
             rt: _,
             following: _,
-            unkept: _,
             greeted,
             comparing,
+            introducing,
             met,
         } = self;
         drop(greeted);
         drop(comparing);
+        drop(introducing);
         drop(met);
     }
 }
 
 impl<'a, R: AllocGlobal + Files<File = File> + Net + Clock> Dialled<'a, R> {
-    /// The connections to a primary, none of which there was yet. What is held is seen there.
+    /// The connections to a primary, none of which there was yet but the one that was greeted.
     pub fn new(
         rt: &'a R,
         following: Following<'a>,
-        unkept: Option<&'a Folder>,
-        greeted: Option<(Line<R::Stream>, Line<R::Stream>)>,
-        watch: Watch<R>,
+        greeted: Option<Lines<R::Stream>>,
+        comparing: Comparing<R>,
+        introducing: Introducing,
     ) -> Dialled<'a, R> {
         Dialled {
             rt,
             following,
-            unkept,
             greeted,
-            comparing: Comparing::new(watch),
+            comparing,
+            introducing,
             met: Met::Nobody,
         }
     }
 }
 
-/// The next connection: the one that was greeted, or else a new one. Where the folder has no database, the
-/// primary is asked for its history first, and once that came the folder has the new one.
-fn connect<R: AllocGlobal + Files<File = File> + Net>(
+/// A new connection, over which the id of the folder was said.
+fn connect<R: AllocGlobal + Net + Clock>(
     rt: &R,
     following: Following<'_>,
-    unkept: Option<&Folder>,
-    greeted: Option<(Line<R::Stream>, Line<R::Stream>)>,
-) -> Result<(Line<R::Stream>, Line<R::Stream>), Fault> {
-    if let Some(lines) = greeted {
-        return Ok(lines);
-    }
-    if let Some(folder) = unkept {
-        let lines = call(rt, following)?;
-        folder.keep(rt)?;
-        return Ok(lines);
-    }
-    let writer = dial(rt, following)?;
+    introducing: &mut Introducing,
+) -> Result<Lines<R::Stream>, Fault> {
+    let writer = introducing.dial(rt, following)?;
     let reader = writer.try_clone()?;
     let alloc = rt.alloc();
     Ok((Line::new(alloc, reader), Line::new(alloc, writer)))
 }
 
 impl<R: AllocGlobal + Files<File = File> + Net + Clock> Dialled<'_, R> {
-    /// The next connection, to a primary that has no other log. One whose log the folder's is yet to become
-    /// is not asked.
-    fn reach(&mut self) -> Result<(Line<R::Stream>, Line<R::Stream>), Fault>
-        ensures { self.new.met ≡ self.old.met }
+    /// The next connection, to a primary that has no other log: the one that was greeted, or else a new one.
+    fn reach(&mut self) -> Result<Lines<R::Stream>, Fault>
+        ensures met { self.new.met ≡ self.old.met }
+        // No session begins uncompared over a held record, unless the caller said so.
+        ensures compared { self.old.greeted ≡ None → OnOk result (MayBegin
+            self.old.comparing.uncompared (inquiries_of self.old.comparing.inquiries)
+            (inquiries_of self.new.comparing.inquiries)) }
     {
-        let greeted = self.greeted.take();
-        if greeted.is_none() && self.unkept.is_none() {
-            if let Some(question) = self.comparing.question(self.rt, self.following)? {
-                self.comparing.compare(self.rt, self.following, &question)?;
-            }
+        if let Some(lines) = self.greeted.take() {
+            return Ok(lines);
         }
-        let lines = connect(self.rt, self.following, self.unkept, greeted)?;
-        self.unkept = None;
+        self.comparing.clear(self.rt, self.following)?;
+        let lines = connect(self.rt, self.following, &mut self.introducing)?;
         Ok(lines)
     }
 }
@@ -129,7 +122,7 @@ impl<R: AllocGlobal + Files<File = File> + Net + Clock> Primaries<Line<R::Stream
 
     ghost met = { λ dialled. sessions_of ⟦<Line<R::Stream> as Write>⟧.contents dialled.met };
 
-    fn next(&mut self) -> Result<(Line<R::Stream>, Line<R::Stream>), Fault> {
+    fn next(&mut self) -> Result<Lines<R::Stream>, Fault> {
         match self.reach() {
             Ok((reader, writer)) => {
                 self.met.begin(&writer);

@@ -9,6 +9,8 @@ pub struct Service<'a> {
     pub readers: u64,
     /// It follows one session after another, for ever.
     pub keep: bool,
+    /// A primary that does not compare logs is followed all the same.
+    pub uncompared: bool,
     /// Where followers of its own connect, as `HOST:PORT`. None: nobody may follow it.
     pub listen: Option<&'a str>,
     /// Frames that a follower's session may have without an answer, 1 to 64.

@@ -62,18 +62,16 @@ fn allowed_of(alloc: Global, texts: &[&str]) -> Result<Allowed, Fault> {
     Ok(allowed)
 }
 
-/// The log of a folder, to be read. That of a new database has another name until its first primary has
-/// answered, and is the same file then.
+/// The log of a folder, to be read.
 ///
 /// Folder: it is not there any more. Stream: it can't be opened. Memory: there was none for its name.
 pub(crate) fn log_file<R: AllocGlobal + Files<File = File>>(
     rt: &R,
     dir: &str,
-    is_new: bool,
 ) -> Result<File, Fault> {
     let alloc = rt.alloc();
     let folder = PathBuf::from_str(alloc, dir)?;
-    let path = folder.join(alloc, if is_new { "log.new" } else { "log.blk" })?;
+    let path = folder.join(alloc, "log.blk")?;
     match File::open(rt, path.as_path()) {
         Ok(file) => Ok(file),
         Err(e) if e.kind() == ErrorKind::NotFound => {

@@ -1,13 +1,14 @@
 use crate::answered::Answered;
 use crate::cascade::Cascade;
+use crate::comparing::Comparing;
 use crate::heard::Heard;
-use crate::holding_on::hold_at_last;
+use crate::holding_on::{Meanwhile, hold_at_last};
 use crate::keeping::{Kept, Pace, follow_sessions};
 use crate::named::Named;
-use crate::next_session::tell_uncompared;
+use crate::next_session::{is_hung_up, tell_uncompared};
 use crate::notices::Notices;
 use crate::outages::Outages;
-use crate::primaries::{Dialled, Primaries};
+use crate::primaries::{Dialled, Lines, Primaries};
 use crate::reporting::{BoardReporter, Reported};
 use crate::seats::{new_board, serve_reads};
 use crate::service::Service;
@@ -19,7 +20,7 @@ use als_engine::{Engine, Events, Reader};
 use als_folder::Folder;
 use als_follow::{Followed, follow_beside};
 use als_http::{Servers, listen};
-use als_operate::{Fault, Following, Held, Line, conclude, follow};
+use als_operate::{Fault, Following, Held, conclude, follow};
 use als_record::FIRST_LSN;
 use als_report::{Board, State, Watch};
 use als_share::{Counts, Observed, Runtime};
@@ -39,14 +40,14 @@ const MEGABYTE: u64 = 1_048_576;
 /// The bytes of a block.
 const BLOCK: u64 = 512;
 
-/// A connection over which the primary was greeted, to be read and to be written.
-type Greeted<S> = Option<(Line<S>, Line<S>)>;
+/// A connection over which the primary was greeted, where it was.
+type Greeted<S> = Option<Lines<S>>;
 
 /// The standby of a folder that follows one session or one after another, and then prints `end=E ack=A`. It
 /// may answer reads over HTTP and serve followers of its own. Its reads are answered from the moment that its folder is held: 503 until
-/// what that holds is redone.
+/// what that holds is redone, which waits for the primary where the folder has no database, or is a former primary's.
 ///
-/// As `als_operate::hold` says. Stream: an address can't be listened at, and no file was touched; or
+/// As `hold_at_last` says. Stream: an address can't be listened at, and no file was touched; or
 /// the primary does not answer, without `keep`. BadConfig: also what is asked of its own followers. Then as a session
 /// ends; with `keep` only by what asking again can't mend.
 pub fn standby<
@@ -74,11 +75,39 @@ pub fn standby<
         None => None,
     };
     let shipping = shipping_of(rt, service)?;
-    let readers = seats(service.readers);
-    let held = hold_at_last(rt, following, readers, service.keep, progress)?;
-    stand(
-        rt, held, listener, shipping, following, service, progress, output,
-    )
+    let board = new_board(rt.alloc())?;
+    let watch = Watch::new(Arc::try_clone(&board)?, rt.clone()?);
+    let mut comparing = Comparing::new(watch, service.uncompared);
+    let meanwhile = Meanwhile {
+        listener: listener.as_ref(),
+        board: &board,
+        readers: seats(service.readers),
+    };
+    let held = hold_at_last(
+        rt,
+        following,
+        service.keep,
+        meanwhile,
+        &mut comparing,
+        progress,
+    )?;
+    let opened = Opened {
+        held,
+        listener,
+        shipping,
+        board,
+        comparing,
+    };
+    stand(rt, opened, following, service, progress, output)
+}
+
+/// A standby whose folder is opened.
+struct Opened<R: Net + Clock> {
+    held: Held<R::Stream>,
+    listener: Option<TcpListener>,
+    shipping: Option<Shipping>,
+    board: Arc<Board, Global>,
+    comparing: Comparing<R>,
 }
 
 /// A reader for each of so many threads, and one for the thread that is spare. Of eight one is spare.
@@ -90,21 +119,20 @@ fn seats(readers: u64) -> u64 {
     }
 }
 
-/// Bytes that the log of a folder takes at most: of a database that is laid out once its primary has
-/// answered, those of this many blocks. None: the files of the folder can't be read.
-fn capacity_of<R: AllocGlobal + Files<File = File>>(
-    rt: &R,
-    folder: &Folder,
-    new_blocks: Option<u64>,
-) -> Option<u64> {
-    let blocks = match new_blocks {
-        Some(blocks) => blocks,
-        None => {
-            let files = folder.open_to_read(rt).ok()?;
-            files.sizes().ok()?.log
-        }
-    };
-    Some(blocks.saturating_mul(BLOCK))
+/// The same, where it is kept.
+fn kept_if<T: Drop>(is_kept: bool, thing: Option<T>) -> Option<T> {
+    if is_kept {
+        thing
+    } else {
+        drop(thing);
+        None
+    }
+}
+
+/// Bytes that the log of a folder takes at most. None: the files of the folder can't be read.
+fn capacity_of<R: AllocGlobal + Files<File = File>>(rt: &R, folder: &Folder) -> Option<u64> {
+    let files = folder.open_to_read(rt).ok()?;
+    Some(files.sizes().ok()?.log.saturating_mul(BLOCK))
 }
 
 /// Answers reads and follows, over a folder that is held.
@@ -123,21 +151,31 @@ fn stand<
     O: Write,
 >(
     rt: &R,
-    held: Held<TcpStream>,
-    listener: Option<TcpListener>,
-    shipping: Option<Shipping>,
+    opened: Opened<R>,
     following: Following<'_>,
     service: Service<'_>,
     progress: &mut P,
     output: &mut O,
 ) -> Result<(), Fault> {
+    let Opened {
+        held,
+        listener,
+        shipping,
+        board,
+        comparing,
+    } = opened;
     let Held {
         folder,
         engine,
         readers,
-        is_new,
+        is_new: _,
         greeted,
+        introducing,
     } = held;
+    // The session refuses a former primary's log that keeps its role: nobody is shown it before.
+    let is_shown = folder.role(rt)?.is_none();
+    let listener = kept_if(is_shown, listener);
+    let shipping = kept_if(is_shown, shipping);
     let names = folder.names(rt)?;
     names.look_now(rt);
     let own = rt.clone()?;
@@ -146,15 +184,13 @@ fn stand<
         names,
         rt: own,
     };
-    let (board, servers) = answer(rt, listener, readers)?;
-    let new_blocks = is_new.then_some(following.log_blocks);
-    if let Some(bytes) = capacity_of(rt, &folder, new_blocks) {
+    board.set_state(State::Recovering);
+    let servers = answer(rt, listener, &board, readers)?;
+    if let Some(bytes) = capacity_of(rt, &folder) {
         board.set_capacity(bytes);
     }
     let greeted = first_lines(service.keep, &engine, greeted);
-    let unkept = if is_new { Some(&folder) } else { None };
-    let watch = Watch::new(Arc::try_clone(&board)?, rt.clone()?);
-    let mut primaries = Dialled::new(rt, following, unkept, greeted, watch);
+    let mut primaries = Dialled::new(rt, following, greeted, comparing, introducing);
     let (cascade, cascading) = cascade_of(
         rt,
         shipping,
@@ -162,7 +198,6 @@ fn stand<
         &board,
         following,
         service.window,
-        is_new,
     )?;
     let pace = Pace {
         workers: service.workers,
@@ -209,39 +244,31 @@ fn cascade_of<
     board: &Arc<Board, Global>,
     following: Following<'_>,
     window: u32,
-    is_new: bool,
 ) -> Result<(Option<Cascade>, Option<Cascading<R>>), Fault> {
     let Some(shipping) = shipping else {
         return Ok((None, None));
     };
     let end = engine.status().acknowledged;
     let cascade = Cascade::new(rt.alloc(), end, engine.history())?;
-    if is_new {
-        // Nobody follows a folder that has no database yet: it has one at its first sync.
-        cascade.adopted(rt, engine.history());
-    }
-    let file = log_file(rt, following.dir, is_new)?;
+    let file = log_file(rt, following.dir)?;
     let timeout = following.timeout;
     let cascading = ship(rt, shipping, file, &cascade, board, timeout, window)?;
     Ok((Some(cascade), Some(cascading)))
 }
 
-/// A board, and, where somebody may come to ask, the threads that answer by it.
+/// Where somebody may come to ask, the threads that answer.
 fn answer<R: AllocGlobal + Threads + Wait + Clock + RandomSource + Clone + Send + Drop + 'static>(
     rt: &R,
     listener: Option<TcpListener>,
+    board: &Arc<Board, Global>,
     readers: Vec<Reader>,
-) -> Result<(Arc<Board, Global>, Option<Servers>), Fault> {
-    let alloc = rt.alloc();
-    let board = new_board(alloc)?;
-    let servers = match listener {
-        Some(listener) => Some(serve_reads(rt, alloc, &listener, &board, readers)?),
-        None => {
-            drop(readers);
-            None
-        }
+) -> Result<Option<Servers>, Fault> {
+    let Some(listener) = listener else {
+        drop(readers);
+        return Ok(None);
     };
-    Ok((board, servers))
+    let servers = serve_reads(rt, rt.alloc(), &listener, board, readers)?;
+    Ok(Some(servers))
 }
 
 /// Ends the threads that answer, if there are any.
@@ -305,8 +332,8 @@ fn drive<
     }
 }
 
-/// Connects to the primary and follows one session. Where a thread can't be started, all is done in
-/// this one.
+/// Connects to the primary and follows one session. Without workers, and where a thread can't be started, all is
+/// done in this one.
 fn follow_once<
     E: Counts + Send + Drop,
     R: AllocGlobal + Runtime + Clock,
@@ -332,7 +359,7 @@ fn follow_once<
             };
         }
     };
-    tell_uncompared(primaries, &mut notices);
+    tell_uncompared(rt, primaries, &mut notices);
     let signs = Signs::new(board);
     let heard = Heard::new(reader, &signs, rt, notices);
     let answered = Answered::new(writer, &signs);
@@ -341,16 +368,41 @@ fn follow_once<
         mut reader,
         mut writer,
         ended,
-    } = follow_beside(rt, alloc, events, pace.workers, pace.each, heard, answered);
+    } = begin_beside(rt, alloc, events, pace, heard, answered);
     let ended = match ended {
         Some(ended) => ended,
         None => follow(rt, alloc, &mut engine, pace.each, &mut reader, &mut writer),
     };
-    let (reader, notices) = reader.end();
+    let is_silent = reader.is_silent();
+    let (reader, mut notices) = reader.end();
+    if is_silent && is_hung_up(ended) {
+        notices.hung_up();
+    }
     drop(notices);
     primaries.part(reader, writer.end(), Some(ended));
     Kept {
         events: engine,
         ended,
     }
+}
+
+/// Follows a session with threads beside it, where there are to be workers. Else, and where a thread can't be started,
+/// nothing is asked for yet.
+fn begin_beside<E: Counts + Send + Drop, R: Runtime, I: Read + Drop, O: Write + Drop>(
+    rt: &R,
+    alloc: Global,
+    events: E,
+    pace: Pace,
+    heard: I,
+    answered: O,
+) -> Followed<E, I, O> {
+    if pace.workers == 0 {
+        return Followed {
+            engine: events,
+            reader: heard,
+            writer: answered,
+            ended: None,
+        };
+    }
+    follow_beside(rt, alloc, events, pace.workers, pace.each, heard, answered)
 }

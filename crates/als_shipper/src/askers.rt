@@ -1,4 +1,4 @@
-use crate::asker::Asker;
+use crate::asker::{Asker, Asks};
 use als_operate::bound;
 use std::alloc::Global;
 use std::io::ErrorKind;
@@ -45,8 +45,8 @@ impl<'a, L: OpenListener<Stream = S>, S, C> Askers<'a, L, S, C> {
 }
 
 impl<L: OpenListener<Stream = S>, S: OpenStream + Drop, C: Clock> Askers<'_, L, S, C> {
-    /// The next who has asked, or did not in time, and how long a frame of it may take.
-    pub fn next(&mut self) -> io::Result<(S, Option<Duration>)> {
+    /// The next who has asked, or did not in time, how long a frame of it may take, and what it asks for.
+    pub fn next(&mut self) -> io::Result<(S, Option<Duration>, Asks)> {
         for _ in 0..u64::MAX {
             let has_come = self.admit()?;
             let now = self.clock.monotonic()?;
@@ -84,12 +84,13 @@ impl<L: OpenListener<Stream = S>, S: OpenStream + Drop, C: Clock> Askers<'_, L, 
     }
 
     /// The stream of one of them. A question that is not whole by now is read no further.
-    fn take(&mut self, at: usize) -> io::Result<(S, Option<Duration>)> {
+    fn take(&mut self, at: usize) -> io::Result<(S, Option<Duration>, Asks)> {
         if at >= self.waiting.len() {
             return Err(ErrorKind::NotFound.into());
         }
         let asker = self.waiting.remove(at);
         let is_whole = asker.is_heard();
+        let asks = asker.asks();
         let stream = asker.end();
         stream.set_nonblocking(false)?;
         let limit = if is_whole {
@@ -98,6 +99,6 @@ impl<L: OpenListener<Stream = S>, S: OpenStream + Drop, C: Clock> Askers<'_, L, 
             Some(Duration::from_millis(1))
         };
         bound(&stream, limit)?;
-        Ok((stream, limit))
+        Ok((stream, limit, asks))
     }
 }

@@ -10,7 +10,8 @@
 //! 1. Those who connect have five seconds to ask. The first whose question is whole is served, so a silent
 //!    or slow peer delays nobody.
 //! 2. A frame of a session takes limited time, read or written.
-//! 3. Who asks for no log is passed over, and sent nothing.
+//! 3. Who asks what log it is, or for the rank of its node, is answered, and a session is waited for. Who asks
+//!    for nothing is passed over, and sent nothing. The id of a follower's folder is read over: one is served.
 //!
 //! als_fanout serves up to eight followers at once, for as long as they come.
 #![tactic(auto)]
@@ -31,6 +32,12 @@ mod askers;
 mod bounded;
 // Since when an end of a session is waited for.
 mod turn;
+// Who asks a question in place of a session.
+mod questions;
+// The log of a file, by which questions are answered.
+mod file_text;
+// Its answers.
+mod log_questions;
 // Who connects to a listener.
 mod callers;
 // Receives the sessions that a shipper meets.
@@ -46,9 +53,12 @@ mod growing_session;
 
 pub use bounded::Bounded;
 pub use callers::Callers;
+pub use file_text::FileText;
 pub use growing_session::serve_growing;
+pub use log_questions::LogQuestions;
 pub use meeting::{Meetings, Untold};
 pub use node_command::{NodeShipping, ship_node};
+pub use questions::{Questions, Unanswered};
 pub use resume::{FRONT, LONGEST, RESUME, TAKEOVERS};
 pub use shipping::{Shipping, asks_nothing, serve, serve_next, ship};
 pub use visitors::Visitors;

@@ -3,12 +3,14 @@ ghost use Rattle.std.specs.Io.KnownBytes.{Appends};
 ghost use Rattle.als_shipper.specs.Lines.{sent_line};
 
 use crate::callers::Callers;
+use crate::file_text::FileText;
+use crate::log_questions::LogQuestions;
 use crate::meeting::Meetings;
 use crate::shipping::serve_next;
 use als_folder::Folder;
 use als_operate::{Fault, PENDING, named, reopen, silence};
 use als_ship::{Fault as SessionFault, LogBytes, acknowledged_log};
-use std::fs::File;
+use std::fs::{File, OpenFile};
 use std::io::Write;
 use std::net::{Net, TcpListener};
 use std::rt::Files;
@@ -60,7 +62,10 @@ fn serve_node<R: AllocGlobal + Files<File = File> + Net + Wait + Clock, M: Meeti
 {
     let mut source = source_of(rt, folder)?;
     let listener = TcpListener::bind(rt, shipping.listen)?;
-    let mut callers = Callers::new(rt.alloc(), &listener, rt, silence(shipping.timeout));
+    let beside = folder.open_to_read(rt)?.log.try_clone()?;
+    let questions = LogQuestions::new(rt.alloc(), FileText::of(beside, &source));
+    let limit = silence(shipping.timeout);
+    let mut callers = Callers::answering(rt.alloc(), &listener, rt, limit, questions);
     serve_next(rt.alloc(), &mut source, &mut callers, meetings, output)
 }
 

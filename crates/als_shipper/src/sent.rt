@@ -39,6 +39,8 @@ impl Marks for Sent {
         self.account.begin(from);
     }
 
+    fn send(&mut self) {}
+
     fn acknowledge(&mut self, lsn: Lsn) {
         self.acknowledged = Some(lsn);
         self.account.acknowledge(lsn);

@@ -13,6 +13,8 @@ ghost use Rattle.als_shipper.specs.Visits.{SendsTrueTo, EndsServingTo};
 ghost use Rattle.als_shipper.specs.Visits.{PassesLast, SendsLast, EndsLast};
 
 use crate::callers::Callers;
+use crate::file_text::FileText;
+use crate::log_questions::LogQuestions;
 use crate::meeting::Meetings;
 use crate::visitors::Visitors;
 use crate::whole::read_whole;
@@ -20,7 +22,7 @@ use als_folder::LOG_LIMIT;
 use als_operate::{Fault, silence};
 use als_ship::{Fault as SessionFault, LogBytes, Shipper, Source};
 use std::alloc::Global;
-use std::fs::File;
+use std::fs::{File, OpenFile};
 use std::io::{Read, Write};
 use std::net::{Net, TcpListener};
 use std::rt::Files;
@@ -39,7 +41,7 @@ pub struct Shipping<'a> {
 
 /// Serves the log text of a file to the first follower that comes to the address and asks for it,
 /// and then prints `sent=N`, the log bytes that it sent. Nothing of the text is checked but its
-/// header. Who comes and asks for nothing is passed over.
+/// header. Who asks what log it is, or for a rank, is answered; who asks for nothing is passed over.
 ///
 /// Session BadHeader: the file begins with no header, or the follower has another one. Session
 /// OtherEpoch: a takeover was before the follower. Session Gap: it holds more than there is. Session
@@ -47,7 +49,7 @@ pub struct Shipping<'a> {
 /// the follower went away, the network failed or was silent too long. Stream: the file, the address
 /// or the output failed, or the file has more than `LOG_LIMIT` bytes. Memory: there was none for
 /// the file.
-pub fn ship<R: AllocGlobal + Files + Net + Clock, M: Meetings, O: Write>(
+pub fn ship<R: AllocGlobal + Files<File = File> + Net + Clock, M: Meetings, O: Write>(
     rt: &R,
     shipping: Shipping<'_>,
     meetings: &mut M,
@@ -56,10 +58,14 @@ pub fn ship<R: AllocGlobal + Files + Net + Clock, M: Meetings, O: Write>(
     ensures told { OnOk result ((n : ℕ) × Appends (O.contents output.old) (O.contents output.new)
         (sent_line n)) }
 {
-    let bytes = read_whole(rt.alloc(), File::open(rt, shipping.log)?, LOG_LIMIT)?;
+    let file = File::open(rt, shipping.log)?;
+    let beside = file.try_clone()?;
+    let bytes = read_whole(rt.alloc(), file, LOG_LIMIT)?;
     let mut source = LogBytes::new(bytes)?;
     let listener = TcpListener::bind(rt, shipping.listen)?;
-    let mut callers = Callers::new(rt.alloc(), &listener, rt, silence(shipping.timeout));
+    let questions = LogQuestions::new(rt.alloc(), FileText::of(beside, &source));
+    let limit = silence(shipping.timeout);
+    let mut callers = Callers::answering(rt.alloc(), &listener, rt, limit, questions);
     serve_next(rt.alloc(), &mut source, &mut callers, meetings, output)
 }
 

@@ -10,3 +10,9 @@ mod frames;
 // Questions over a log of several pieces.
 #[cfg(test)]
 mod questions;
+// Ranks.
+#[cfg(test)]
+mod ranks;
+// How logs begin, and the id of a folder.
+#[cfg(test)]
+mod beginnings;

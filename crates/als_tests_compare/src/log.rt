@@ -132,6 +132,8 @@ impl Marks for Began {
         self.heard.begin(from);
     }
 
+    fn send(&mut self) {}
+
     fn acknowledge(&mut self, lsn: Lsn) {
         self.heard.acknowledge(lsn);
     }

@@ -37,6 +37,12 @@ fn questions(rt: &impl Abort, alloc: Global) -> Option<()> {
     // Of the epoch before: its seal is at 100.
     answered(rt, alloc, &summary(bytes.as_slice().get(..100)?, 0), 0)?;
     answered(rt, alloc, &summary(bytes.as_slice().get(..101)?, 0), 3)?;
+    // Another log, of which so much is asked: all of it parts, and its beginning is another one.
+    let mut another = text(alloc, 150)?;
+    *another.as_mut_slice().get_mut(50)? ^= 1;
+    answered(rt, alloc, &summary(another.as_slice(), 0), 3)?;
+    answered(rt, alloc, &summary(another.as_slice().get(..100)?, 0), 1)?;
+    answered(rt, alloc, &summary(another.as_slice().get(..50)?, 0), 0)?;
     // Of a later one.
     answered(rt, alloc, &summary(bytes.as_slice().get(..100)?, 2), 3)?;
     // One byte is another one: in the first piece, in the last one, and past the end.

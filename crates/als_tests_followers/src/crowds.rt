@@ -1,4 +1,4 @@
-use crate::made::{Made, follow, make, next, notice};
+use crate::made::{Made, follow, make, next, notice, up_to};
 use als_followers::What;
 use als_record::Lsn;
 use std::alloc::Global;
@@ -55,11 +55,14 @@ fn turn_away<
 >(rt: &R, made: Made<R>) -> Option<bool> {
     let away = follow(rt, made.at, 16).is_none();
     let told = matches!(notice(rt, &made.followers)?, What::Stranger);
-    let seat = made.quorum.join(rt, made.at.ip())?;
-    made.quorum.acknowledge(rt, seat, Lsn(116));
+    // It is reported once a minute, however often it comes.
+    let again = follow(rt, made.at, 16).is_none();
+    let quiet = made.followers.notice(rt).is_none();
+    let seat = made.quorum.join(rt, made.at.ip(), None)?;
+    made.quorum.acknowledge(rt, seat, Lsn(116), 0);
     let silent = !made
         .quorum
-        .wait_for(rt, 1, Lsn(16), Duration::ZERO)
+        .wait_for(rt, 1, up_to(16), Duration::ZERO)
         .is_enough;
     let Made {
         followers,
@@ -68,7 +71,7 @@ fn turn_away<
         at: _,
     } = made;
     followers.close(rt);
-    Some(away && told && silent)
+    Some(away && told && again && quiet && silent)
 }
 
 #[test]

@@ -16,3 +16,9 @@ mod pulses;
 // Who is hung up on.
 #[cfg(test)]
 mod crowds;
+// A folder's one session, and its rank.
+#[cfg(test)]
+mod folders;
+// Rounds of a leader.
+#[cfg(test)]
+mod rounds;

@@ -1,6 +1,8 @@
 use als_callers::{Allowed, Block};
+use als_compare::write_id;
 use als_epochs::History;
 use als_followers::{Followers, NodeSource, Quorum, Tail, Terms, What};
+use als_quorum::Wanted;
 use als_record::{LogHeader, Lsn};
 use als_wire::{read_acknowledged, read_data, read_epochs, write_acknowledged, write_resume};
 use std::alloc::Global;
@@ -97,10 +99,33 @@ pub fn make<
     })
 }
 
+/// A connection to a listener.
+pub fn connect<R: Net<Stream = TcpStream>>(rt: &R, at: SocketAddr) -> Option<TcpStream> {
+    let stream = TcpStream::connect(rt, at).ok()?;
+    stream.set_read_timeout(Some(Duration::from_secs(20))).ok()?;
+    Some(stream)
+}
+
 /// A follower that goes on from an offset. None: it was not let in.
 pub fn follow<R: Net<Stream = TcpStream>>(rt: &R, at: SocketAddr, from: u64) -> Option<TcpStream> {
-    let mut stream = TcpStream::connect(rt, at).ok()?;
-    stream.set_read_timeout(Some(Duration::from_secs(20))).ok()?;
+    resume(connect(rt, at)?, from)
+}
+
+/// The same of a follower whose folder has the id of which each byte is this one.
+pub fn follow_as<R: Net<Stream = TcpStream>>(
+    rt: &R,
+    at: SocketAddr,
+    from: u64,
+    id: u8,
+) -> Option<TcpStream> {
+    let mut stream = connect(rt, at)?;
+    write_id(&mut stream, &[id; 16]).ok()?;
+    resume(stream, from)
+}
+
+/// Begins a session over a connection.
+fn resume(stream: TcpStream, from: u64) -> Option<TcpStream> {
+    let mut stream = stream;
     let header = LogHeader { pages: PAGES };
     write_resume(&mut stream, Lsn(from), header, &History::empty()).ok()?;
     read_epochs(&mut stream).ok()?;
@@ -134,4 +159,12 @@ pub fn notice<R: Wait + Clock + Drop>(
         thread::sleep(rt, Duration::from_millis(10));
     }
     None
+}
+
+/// The log up to there, whatever the round.
+pub fn up_to(end: u64) -> Wanted {
+    Wanted {
+        lsn: Lsn(end),
+        round: 0,
+    }
 }

@@ -38,6 +38,8 @@ impl Marks for Ears {
         self.account.begin(from);
     }
 
+    fn send(&mut self) {}
+
     fn acknowledge(&mut self, lsn: Lsn) {
         self.account.acknowledge(lsn);
     }

@@ -1,4 +1,4 @@
-use crate::made::{Made, follow, make, next, notice};
+use crate::made::{Made, follow, make, next, notice, up_to};
 use als_followers::What;
 use als_quorum::Quorum;
 use als_record::Lsn;
@@ -11,7 +11,7 @@ use std::time::{Clock, Duration};
 
 /// Whether this many followers have acknowledged the log up to there, or do within the time.
 fn has<R: Wait + Clock>(rt: &R, quorum: &Quorum, count: u32, end: u64, at_most: Duration) -> bool {
-    quorum.wait_for(rt, count, Lsn(end), at_most).is_enough
+    quorum.wait_for(rt, count, up_to(end), at_most).is_enough
 }
 
 /// Whether a follower gets what is below the tail, and more as that rises; whether the leader sees what it

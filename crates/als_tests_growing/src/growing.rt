@@ -2,12 +2,13 @@ ghost use Rattle.std.specs.Prelude.{[]};
 ghost use Rattle.als_sending.specs.Accounts.{reads_of};
 
 use crate::made::{SENT, TEXT, TOLD, listen};
+use als_compare::{Summing, write_id, write_question};
 use als_epochs::History;
 use als_operate::Fault;
 use als_record::LogHeader;
 use als_sending::{Account, Growing, Grown};
 use als_ship::Fault as SessionFault;
-use als_shipper::{Callers, Untold, serve_growing};
+use als_shipper::{Callers, LogQuestions, Untold, serve_growing};
 use std::alloc::Global;
 use std::io::{Read, Write};
 use std::net::{Net, Shutdown, SocketAddr, TcpListener, TcpStream};
@@ -87,7 +88,8 @@ fn asks<R: Net<Stream = TcpStream>>(
 ) -> io::Result<Vec<u8>> {
     let mut stream = TcpStream::connect(rt, addr)?;
     stream.write_all(told)?;
-    stream.shutdown(Shutdown::Write)?;
+    // A source that hangs up over what it did not read has ended the connection by then: nothing is left to shut down.
+    let _ = stream.shutdown(Shutdown::Write);
     let mut sent = Vec::new(alloc);
     // What was not read of a question makes the end of its connection an error.
     let _ = stream.take(1_000).read_to_end(&mut sent);
@@ -166,6 +168,90 @@ fn a_log_that_grows_is_served(rt: HostRuntime) -> Result<(), Fail> {
     let other = Fault::Session(SessionFault::BadHeader);
     assert!(rt; served == (Ok(false), Err(other), Ok(true)));
     assert!(rt; followed == (0, 0, true));
+    assert!(rt; printed.as_slice() == b"sent=92\n".as_slice());
+    Ok(())
+}
+
+/// The text of the log, as it is.
+fn whole_text() -> Text {
+    Text {
+        until: TEXT.len() as u64,
+        shown: 0,
+        account: Account::Nothing,
+    }
+}
+
+/// What one asks who holds the log up to there, one of whose last byte is another one, and one who asks for the
+/// rank; and a follower that says the id of its folder first: whether each gets its answer.
+fn ask_questions<R: Net<Stream = TcpStream>>(
+    rt: &R,
+    alloc: Global,
+    addr: SocketAddr,
+) -> io::Result<[bool; 4]> {
+    let mut summing = Summing::new();
+    summing.add(&TEXT);
+    let same = summing.summary(0);
+    let mut other = same;
+    other.digest[31] ^= 1;
+    let mut question = Vec::new(alloc);
+    let mut another = Vec::new(alloc);
+    if write_question(&mut question, &same).is_err()
+        || write_question(&mut another, &other).is_err()
+    {
+        return Err(io::ErrorKind::OutOfMemory.into());
+    }
+    let first = asks(rt, alloc, addr, question.as_slice())?;
+    let second = asks(rt, alloc, addr, another.as_slice())?;
+    let third = asks(rt, alloc, addr, b"R")?;
+    let mut named = Vec::new(alloc);
+    if write_id(&mut named, &[7; 16]).is_err() {
+        return Err(io::ErrorKind::OutOfMemory.into());
+    }
+    named.extend_from_slice(&TOLD)?;
+    let mut rank = [0; 17];
+    rank[0] = b'R';
+    rank[16] = TEXT.len() as u8;
+    Ok([
+        first.as_slice() == b"V\0".as_slice(),
+        second.as_slice() == b"V\x01".as_slice(),
+        third.as_slice() == rank.as_slice(),
+        is_sent(&asks(rt, alloc, addr, named.as_slice())),
+    ])
+}
+
+/// What a shipper answers that is asked questions before its one session.
+fn serve_after_questions<R: Net<Listener = TcpListener, Stream = TcpStream> + Clock>(
+    rt: &R,
+    alloc: Global,
+    listener: &TcpListener,
+    printed: &mut Vec<u8>,
+) -> Served {
+    let limit = Some(Duration::from_secs(20));
+    let questions = LogQuestions::new(alloc, whole_text());
+    let mut callers = Callers::answering(alloc, listener, rt, limit, questions);
+    serve_growing(
+        alloc,
+        &mut whole_text(),
+        16,
+        &mut callers,
+        &mut Untold,
+        printed,
+    )
+}
+
+#[test]
+fn questions_are_answered_before_a_session(rt: HostRuntime) -> Result<(), Fail> {
+    let alloc = rt.alloc();
+    let mut printed = Vec::new(alloc);
+    let (listener, addr) = listen(&rt)?;
+    let (rt, listener, output) = (&rt, &listener, &mut printed);
+    let (served, asked) = thread::join(
+        rt,
+        move || serve_after_questions(rt, alloc, listener, output),
+        move || ask_questions(rt, alloc, addr),
+    );
+    assert!(rt; served == Ok(true));
+    assert!(rt; asked.ok() == Some([true; 4]));
     assert!(rt; printed.as_slice() == b"sent=92\n".as_slice());
     Ok(())
 }

@@ -2,7 +2,7 @@ use crate::desk::{Desk, Seen};
 use crate::made::{desk, doubts, primary};
 use crate::others::{Others, Word};
 use als_engine::{Events, Fault as EngineFault};
-use als_lead::{Limits, lead};
+use als_lead::{Account, Limits, lead};
 use als_operate::Fault;
 use std::alloc::Global;
 use std::process::Abort;
@@ -46,6 +46,8 @@ fn leads<R: Wait + Abort>(
         bytes: u64::MAX,
     };
     let mut others = Others::new(rt, engine.status().end, groups, before);
+    // Nothing was handed out or answered yet.
+    desk.account = Account::Nothing;
     let ended = lead(alloc, &mut engine, &mut desk, &mut others, limits);
     if ended == Err(Fault::Memory) || ended == Err(Fault::Refused(EngineFault::Memory)) {
         return None;

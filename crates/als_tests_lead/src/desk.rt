@@ -45,6 +45,9 @@ impl Clients for Desk {
 
     ghost told = { λ desk. told_of desk.account };
 
+    // A test compares what it is told.
+    ghost may_tell = { λ asked answer. Unit {0} };
+
     fn wait(&mut self) -> Result<Waited, Fault> {
         if self.asks.is_empty() || self.waits == 0 {
             return Ok(Waited::Closed);

@@ -1,7 +1,7 @@
 use crate::desk::{Desk, Seen};
 use crate::made::{desk, primary};
 use als_engine::{Events, Fault as EngineFault};
-use als_lead::{Limits, PrimaryUpkeep, lead};
+use als_lead::{Account, Limits, PrimaryUpkeep, lead};
 use als_operate::Fault;
 use std::alloc::Global;
 use std::process::Abort;
@@ -26,6 +26,8 @@ pub fn leads<R: Wait + Abort>(
         bytes: u64::MAX,
     };
     let mut upkeep = PrimaryUpkeep::new(rt, 0, engine.status().end);
+    // Nothing was handed out or answered yet.
+    desk.account = Account::Nothing;
     let ended = lead(alloc, &mut engine, &mut desk, &mut upkeep, limits);
     if ended == Err(Fault::Memory) || ended == Err(Fault::Refused(EngineFault::Memory)) {
         return None;

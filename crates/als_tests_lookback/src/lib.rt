@@ -10,3 +10,6 @@ mod cutting;
 // What the commits up to an LSN left, and where a transaction committed.
 #[cfg(test)]
 mod looking;
+// A log that a session copies.
+#[cfg(test)]
+mod backing_up;

@@ -67,6 +67,9 @@ impl Clients for Numbered {
 
     ghost told = { λ numbered. told_of numbered.account };
 
+    // The test compares what it is told.
+    ghost may_tell = { λ asked answer. Unit {0} };
+
     fn wait(&mut self) -> Result<Waited, Fault> {
         self.is_waited = true;
         if self.next < self.end {

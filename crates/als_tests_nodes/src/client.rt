@@ -141,41 +141,73 @@ fn commit_all<R: Net + AllocGlobal + Clock>(
     true
 }
 
-/// Takes the log of a primary away, and asks it to commit until it no more does. Each standby has what was
-/// answered.
+/// Whether each standby that still answers behind a commit shows a byte at a place.
+fn none_denies<R: Net + AllocGlobal + Clock>(
+    rt: &R,
+    standbys: &[u64],
+    lsn: u64,
+    place: Place,
+    byte: u8,
+) -> bool {
+    for port in standbys {
+        if shows(rt, *port, lsn, place, byte) == Some(false) {
+            return false;
+        }
+    }
+    true
+}
+
+/// What a client has seen of a primary and its standbys.
+#[derive(Clone, Copy)]
+pub struct Seen {
+    /// Each commit was answered, and each read was right.
+    pub is_right: bool,
+    /// A commit was answered once the primary's log was away, so one of the standbys has it.
+    pub answers_last: bool,
+}
+
+/// Takes the log of a primary away, and asks it to commit until it no more does. None: it commits on. A standby
+/// whose session has ended with the primary answers no more.
 fn end<R: AllocGlobal + Files<File = File> + Net + Clock>(
     rt: &R,
     dir: &str,
     port: u64,
     standbys: &[u64],
-) -> Option<()> {
+) -> Option<Seen> {
     let alloc = rt.alloc();
     let log = format!(in alloc; "{dir}/log.blk").ok()?;
     let moved = format!(in alloc; "{dir}/moved").ok()?;
     fs::rename(rt, log.as_str(), moved.as_str()).ok()?;
+    let mut seen = Seen {
+        is_right: true,
+        answers_last: false,
+    };
     for _ in 0..LAST {
         match commit(rt, port, END, ENDED) {
             Some(lsn) => {
-                let _ = all_show(rt, standbys, lsn, END, ENDED);
+                seen.answers_last = true;
+                seen.is_right = seen.is_right && none_denies(rt, standbys, lsn, END, ENDED);
             }
-            None => return Some(()),
+            None => return Some(seen),
         }
         thread::sleep(rt, Duration::from_millis(NAP));
     }
     None
 }
 
-/// Works with a primary and its standbys, and ends the primary. Whether all went well. None: the primary did
-/// not begin or did not end.
+/// Works with a primary and its standbys, and ends the primary. None: the primary did not begin or did not end.
 pub fn works<R: AllocGlobal + Files<File = File> + Net + Clock>(
     rt: &R,
     dir: &str,
     ports: &Ports,
     standbys: &[u64],
     numbers: (u8, u8),
-) -> Option<bool> {
+) -> Option<Seen> {
     let port = ports.serve(rt)?;
     let is_right = commit_all(rt, port, standbys, numbers);
-    end(rt, dir, port, standbys)?;
-    Some(is_right)
+    let seen = end(rt, dir, port, standbys)?;
+    Some(Seen {
+        is_right: is_right && seen.is_right,
+        answers_last: seen.answers_last,
+    })
 }

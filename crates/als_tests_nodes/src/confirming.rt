@@ -1,6 +1,7 @@
 use als_engine::{Events, Fault};
 use als_followers::{Quorum, Tail};
 use als_lead::{PrimaryUpkeep, Upkeep};
+use als_quorum::Wanted;
 use als_record::Lsn;
 use std::alloc::Global;
 use std::sync::{Arc, Wait};
@@ -30,10 +31,13 @@ impl<R: Wait + Clock> Upkeep for OneFollower<'_, R> {
     }
 
     fn confirm(&mut self, end: Lsn) -> Result<bool, Fault> {
-        self.tail.raise(self.rt, end);
+        let wanted = Wanted {
+            lsn: end,
+            round: self.tail.ask(self.rt, end),
+        };
         let tally = self
             .quorum
-            .wait_for(self.rt, 1, end, Duration::from_secs(LONG));
+            .wait_for(self.rt, 1, wanted, Duration::from_secs(LONG));
         Ok(tally.is_enough)
     }
 

@@ -1,7 +1,8 @@
-use crate::client::works;
+use crate::client::{Seen, works};
 use crate::ports::Ports;
 use crate::served::{serves, stands_by};
 use crate::standby::take_over;
+use als_lead::{NewDatabase, lay_out};
 use std::alloc::Global;
 use std::fs::File;
 use std::io::Write;
@@ -44,12 +45,18 @@ fn free_port<R: Net<Listener = TcpListener, Stream = TcpStream>>(rt: &R) -> Opti
     Some(u64::from(listener.local_addr().ok()?.port()))
 }
 
-/// Makes empty folders. What an earlier run left of them goes.
-fn make<R: AllocGlobal + Files>(rt: &R, folders: Folders) -> Option<()> {
+/// Makes the folder of a new primary, and two empty ones. What an earlier run left of them goes.
+fn make<R: AllocGlobal + Files<File = File> + Wait>(rt: &R, folders: Folders) -> Option<()> {
     clear(rt, folders);
     fs::create_dir(rt, folders.first).ok()?;
     fs::create_dir(rt, folders.second).ok()?;
-    fs::create_dir(rt, folders.third).ok()
+    fs::create_dir(rt, folders.third).ok()?;
+    let new = NewDatabase {
+        dir: folders.first,
+        pages: 4,
+        log_blocks: 256,
+    };
+    lay_out(rt, new).ok()
 }
 
 /// Removes the folders.
@@ -71,18 +78,35 @@ fn rows_of(alloc: Global, count: u8) -> Option<Vec<u8>> {
     Some(rows)
 }
 
-/// Whether a takeover of a folder finds just the commits up to this number, and perhaps the one that the
-/// client made to see that its primary had ended. None: it failed.
+/// Whether a takeover of a folder finds just the commits up to this number, and the one by which the client saw
+/// that its primary had ended: that one has to be there where it is wanted. None: it failed.
 fn has_all<R: AllocGlobal + Files<File = File> + Wait>(
     rt: &R,
     dir: &str,
     count: u8,
+    wants_last: bool,
 ) -> Option<bool> {
     let printed = take_over(rt, dir)?;
     let mut rows = rows_of(rt.alloc(), count)?;
     let found = printed.as_slice().ends_with(rows.as_slice());
     writeln!(rows, "3/14 ff").ok()?;
-    Some(found || printed.as_slice().ends_with(rows.as_slice()))
+    Some((found && !wants_last) || printed.as_slice().ends_with(rows.as_slice()))
+}
+
+/// Whether a client has seen what it should.
+fn is_right(seen: Option<Seen>) -> bool {
+    match seen {
+        Some(seen) => seen.is_right,
+        None => false,
+    }
+}
+
+/// Whether a client was answered once its primary's log was away.
+fn answers_last(seen: Option<Seen>) -> bool {
+    match seen {
+        Some(seen) => seen.answers_last,
+        None => false,
+    }
 }
 
 #[test]
@@ -113,7 +137,11 @@ fn the_commits_of_two_primaries_are_found_by_a_takeover(rt: HostRuntime) -> Resu
                 },
                 move || works(rt, folders.first, ports, both, (0, FIRST)),
             );
-            if ended && worked == Some(true) && has_all(rt, folders.second, FIRST) == Some(true) {
+            // Either standby may have what was answered last.
+            if ended
+                && is_right(worked)
+                && has_all(rt, folders.second, FIRST, false) == Some(true)
+            {
                 let ports = &Ports::new();
                 let one = &[third];
                 let ((ended, _), worked) = thread::join(
@@ -127,8 +155,8 @@ fn the_commits_of_two_primaries_are_found_by_a_takeover(rt: HostRuntime) -> Resu
                     },
                     move || works(rt, folders.second, ports, one, (FIRST, ALL)),
                 );
-                if ended && worked == Some(true) {
-                    found = has_all(rt, folders.third, ALL);
+                if ended && is_right(worked) {
+                    found = has_all(rt, folders.third, ALL, answers_last(worked));
                 }
             }
             clear(rt, folders);

@@ -5,7 +5,9 @@ use als_drive::Silent;
 use als_engine::{Engine, Events};
 use als_folder::Folder;
 use als_followers::{Allowed, Followers, NodeSource, Quorum, Tail, Terms};
-use als_lead::{Database, Limits, Primary, PrimaryUpkeep, lead, open};
+use als_lead::{
+    Account, Database, Limits, NewDatabase, Primary, PrimaryUpkeep, lay_out, lead, open,
+};
 use als_operate::Fault;
 use std::alloc::Global;
 use std::fs::{File, OpenFile};
@@ -94,6 +96,8 @@ impl<R: AllocGlobal + Wait + Clock> Shipping<R> {
             quorum: Arc::try_clone(&self.quorum)?,
         };
         numbered.end = end;
+        // Nothing was handed out or answered yet.
+        numbered.account = Account::Nothing;
         let limits = Limits {
             transactions: 1,
             bytes: u64::MAX,
@@ -169,10 +173,16 @@ fn start<
         + 'static,
 >(rt: &R, dir: &str, listener: TcpListener) -> Option<Shipping<R>> {
     let alloc = rt.alloc();
+    let new = NewDatabase {
+        dir,
+        pages: u64::from(PAGES),
+        log_blocks: 256,
+    };
+    lay_out(rt, new).ok()?;
     let database = Database {
         dir,
         pages: Some(u64::from(PAGES)),
-        log_blocks: 256,
+        log_blocks: Some(256),
         readers: 1,
     };
     let Primary {

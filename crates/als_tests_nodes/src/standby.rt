@@ -1,10 +1,15 @@
+use crate::ports::Unheard;
 use als_drive::Progress;
-use als_operate::{Following, Forgets, TakenOver, standby, takeover};
+use als_operate::{Following, Forgets, TakenOver, takeover};
 use als_record::Lsn;
+use als_service::{Service, standby};
 use std::fs::File;
-use std::net::Net;
+use std::net::{Net, TcpListener, TcpStream};
+use std::random::RandomSource;
 use std::rt::Files;
 use std::sync::Wait;
+use std::thread::Threads;
+use std::time::Clock;
 
 /// Nobody is told.
 #[derive(Clone, Copy)]
@@ -18,14 +23,22 @@ impl Forgets for Untold {
     fn forgot(&mut self, _seal: Lsn) {}
 }
 
-/// Follows one session as the standby of a folder. Its primary may be silent for so many seconds. Whether the
-/// session came to its end.
-pub fn follows<R: AllocGlobal + Files<File = File> + Net + Wait>(
-    rt: &R,
-    dir: &str,
-    from: &str,
-    timeout: u64,
-) -> bool {
+/// Follows one session as the standby of a folder, all in this thread. Its primary may be silent for so many seconds.
+/// Whether the session came to its end.
+pub fn follows<
+    R: AllocGlobal
+        + Files<File = File>
+        + Net<Listener = TcpListener, Stream = TcpStream>
+        + Threads
+        + Wait
+        + Sync
+        + Clock
+        + RandomSource
+        + Clone
+        + Send
+        + Drop
+        + 'static,
+>(rt: &R, dir: &str, from: &str, timeout: u64) -> bool {
     let following = Following {
         dir,
         from,
@@ -34,8 +47,18 @@ pub fn follows<R: AllocGlobal + Files<File = File> + Net + Wait>(
         checkpoint_mb: 0,
         timeout,
     };
+    let service = Service {
+        workers: 0,
+        serve: None,
+        readers: 1,
+        keep: false,
+        uncompared: false,
+        listen: None,
+        window: 1,
+        followers: &[],
+    };
     let mut printed = Vec::new(rt.alloc());
-    let ended = standby(rt, following, &mut Untold, &mut printed);
+    let ended = standby(rt, following, service, &mut Unheard, &mut printed);
     ended.is_ok()
 }
 

@@ -32,12 +32,14 @@ fn help_is_written(rt: HostRuntime) {
     asks(&rt, &["als", "standby", "--help"], "      --keep");
     asks(&rt, &["als", "help", "standby"], "      --serve <ADDR>");
     asks(&rt, &["als", "standby", "-h"], "--readers <R>");
+    asks(&rt, &["als", "help", "takeover"], "--peer <PEER>");
     for command in [
         "make",
         "sim",
         "standby",
         "takeover",
         "resolve",
+        "new",
         "commit",
         "rebuild-pages",
         "dump",
@@ -130,6 +132,12 @@ fn faults_are_told(rt: HostRuntime) {
         "als", "ship", "--dir", "db", "--listen", "0", "--follow", "--keep",
     ];
     errs(&rt, &parted, "'--follow' cannot be used with '--dir <DIR>'");
+    errs(&rt, &["als", "takeover"], "<DIR|--dir <DIR>>");
+    let nine = [
+        "als", "takeover", "db", "--peer=a", "--peer=b", "--peer=c", "--peer=d", "--peer=e",
+        "--peer=f", "--peer=g", "--peer=h", "--peer=i",
+    ];
+    errs(&rt, &nine, "cannot be used more than eight times");
 }
 
 fn asks<

@@ -47,6 +47,10 @@ struct Refusal<'a> {
     explained: &'a str,
 }
 
+/// The sizes of a folder's database are others than are asked for.
+const OTHER_PAGES: &str =
+    "als: refused 34 BadControl\nals: damaged: the database has 4 pages, and --pages says 8\n";
+
 /// Whether the program prints this, is refused so, and says no more.
 fn is_told<
     R: AllocGlobal
@@ -325,6 +329,7 @@ fn a_long_file_is_told<
     // A page count that is given has to be that of the database.
     assert!(rt; lengthens(rt, 2, 4 * 512).is_some() || lengthens(rt, 2, 4 * 512).is_some());
     let other = Refusal {
+        refusal: OTHER_PAGES,
         explained: "als: damaged/control.blk: the control block or the checkpoint is damaged, or that of another log or page count\n",
         ..long
     };
@@ -345,8 +350,8 @@ fn a_long_file_is_told<
     ];
     is_refused(rt, &primary, other);
     let beyond = Refusal {
-        refusal: "als: refused 37 BadConfig\n",
-        explained: "als: a number is missing or out of its range: the lines of 37 in --help have the ranges\n",
+        refusal: "als: refused 37 BadConfig\nals: --pages is 4097: wanted is a number from 1 to 4096\n",
+        explained: "",
         ..long
     };
     is_refused(
@@ -465,27 +470,6 @@ fn a_damaged_file_is_told(rt: HostRuntime) {
     };
     is_refused(&rt, &TAKEOVER, missing);
     is_refused(&rt, &STANDBY, missing);
-}
-
-#[test]
-fn a_new_folder_wants_its_pages(rt: HostRuntime) {
-    assert!(rt; fs::create_dir(&rt, "without_pages").is_ok());
-    let told = Refusal {
-        printed: "",
-        refusal: "als: refused 37 BadConfig\n",
-        explained: "als: without_pages: a folder without a database needs --pages N, 1 to 4096\n",
-    };
-    let primary = [
-        "als",
-        "primary",
-        "--dir",
-        "without_pages",
-        "--serve",
-        "127.0.0.1:0",
-    ];
-    is_refused(&rt, &primary, told);
-    is_refused(&rt, &["als", "commit", "--dir", "without_pages"], told);
-    assert!(rt; fs::remove_dir(&rt, "without_pages").is_ok());
 }
 
 /// A log file has no name but its path.

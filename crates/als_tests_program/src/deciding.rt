@@ -1,5 +1,4 @@
 use crate::folder::Folder;
-use crate::row::{Row, WORLD, run_row, run_scripts};
 use als_program::program;
 use std::fs::File;
 use std::net::{Net, TcpListener, TcpStream};
@@ -10,132 +9,8 @@ use std::thread::Threads;
 use std::time::Clock;
 use std::{fs, io};
 
-/// A transaction that is prepared and not decided, and one that a takeover undoes; the records
+/// The log of a transaction that is prepared and not decided, and of one that a takeover undoes; the records
 /// stand at 16, 52 and 80.
-const DOUBT: (&str, &str) = (
-    "world pages=4 log=8 frames=4 workers=2 pending=1000
-u 1 0 0 - aa
-prepare 1
-u 2 0 1 - bb
-feed 16 116
-show table
-resolve 1 commit
-takeover
-show log 116
-show db
-read 0 0
-resolve 2 commit
-",
-    "ok taken=100 records=3 end=116
-trans 1 prepared last=52 undo=16
-trans 2 active last=80 undo=80
-refused 46 NotPrimary
-ok end=186
-116 clr trans=2 0/1 - prev=80 next=0
-158 end trans=2 prev=116
-0/0 aa
-ok - commits=0 lsn=0
-refused 47 NotInDoubt
-",
-);
-
-/// Its decisions.
-const DECISIONS: [(&str, &str); 2] = [
-    (
-        "resolve 1 commit
-undo
-force
-publish
-read 0 0
-",
-        "ok lsn=186
-ok lsn=214
-ok ack=242
-ok
-ok aa commits=1 lsn=186
-",
-    ),
-    (
-        "resolve 1 rollback
-undo
-undo
-drain
-show db
-",
-        "ok lsn=186
-ok lsn=214
-ok lsn=256
-ok
-empty
-",
-    ),
-];
-
-/// Six updates fit into one block with what a takeover may append. Their prepare does not: it keeps
-/// room for a rollback too.
-const FULL: (&str, &str) = (
-    "world pages=4 log=1 frames=4 workers=2 pending=1000
-u 1 0 0 - 00
-u 1 0 1 - 01
-u 1 0 2 - 02
-u 1 0 3 - 03
-u 1 0 4 - 04
-u 1 0 5 - 05
-prepare 1
-feed 16 260
-",
-    "refused 29 LogFull taken=216 records=6 end=232\n",
-);
-
-/// What a prepared transaction may not write, and what may not be prepared.
-const REFUSED: [(&str, &str); 5] = [
-    (
-        "prepare 1
-u 1 0 0 - aa
-feed 16 80
-",
-        "refused 10 WrongState taken=28 records=1 end=44\n",
-    ),
-    (
-        "prepare 1
-prepare 1
-feed 16 72
-",
-        "refused 10 WrongState taken=28 records=1 end=44\n",
-    ),
-    (
-        "prepare 1
-end 1
-feed 16 72
-",
-        "refused 10 WrongState taken=28 records=1 end=44\n",
-    ),
-    (
-        "rollback 1
-prepare 1
-feed 16 72
-",
-        "refused 10 WrongState taken=28 records=1 end=44\n",
-    ),
-    (
-        "u 1 0 0 - aa
-prepare 1
-c 1 0 0 - 0
-feed 16 122
-",
-        "refused 10 WrongState taken=64 records=2 end=80\n",
-    ),
-];
-
-#[test]
-fn a_transaction_in_doubt_is_decided_after_the_takeover(rt: HostRuntime) {
-    run_scripts(&rt, DOUBT, &DECISIONS);
-    let (script, output) = FULL;
-    run_row(&rt, Row::sim(script, output));
-    run_scripts(&rt, (WORLD, ""), &REFUSED);
-}
-
-/// The log of those two transactions.
 const TEXT: [u8; 116] = [
     65, 76, 83, 76, 79, 71, 48, 49, 0, 0, 0, 4, 0, 0, 0, 0, 0, 0, 0, 36, 1, 0, 0, 0, 0, 0, 0, 0, 0,
     0, 0, 16, 0, 0, 0, 0, 0, 0, 0, 0, 0, 0, 0, 1, 0, 0, 0, 0, 0, 255, 1, 170, 0, 0, 0, 28, 8, 0, 0,
@@ -182,7 +57,7 @@ const STATUS: [&str; 3] = ["als", "status", "doubted"];
 
 /// What the folder of the new primary holds.
 const HELD: &str =
-    "phase=Primary pages=4 end=186 ack=186 checkpoint=0 behind=170 transactions=1 capacity=1024 left=838
+    "phase=Primary pages=4 end=186 ack=186 checkpoint=0 behind=170 transactions=1 capacity=1024 left=838 rank=116/186
 epoch 1 seals 116
 trans 1 prepared last=52 undo=16
 ";
@@ -190,6 +65,10 @@ trans 1 prepared last=52 undo=16
 /// What a takeover leaves to the coordinator.
 const TOLD: &str =
     "als: transaction 1 is in doubt: it was prepared and not decided; ask its coordinator, then run als resolve --dir doubted --trans 1 with --commit or --rollback\n";
+
+/// The same of the first one, which was compared with no other node's.
+const FIRST: &str =
+    "als: doubted: its rank 0/116 was compared with no other node's (--peer): see that rank= of als status of each is not above it. Where one is, als rewind --dir doubted --to 116 takes this one back, before it answers clients\nals: transaction 1 is in doubt: it was prepared and not decided; ask its coordinator, then run als resolve --dir doubted --trans 1 with --commit or --rollback\n";
 
 /// Whether the program prints this, tells this on standard error, and ends so.
 fn answers<
@@ -266,7 +145,7 @@ fn takes_over<
         + 'static,
 >(rt: &R) -> bool {
     refuses(rt, &COMMIT, "als: refused 46 NotPrimary\n")
-        && answers(rt, &TAKEOVER, "end=186\n0/0 aa\n", TOLD, 0)
+        && answers(rt, &TAKEOVER, "end=186\n0/0 aa\n", FIRST, 0)
         && answers(rt, &TAKEOVER, "end=186\n0/0 aa\n", TOLD, 0)
         && prints(rt, &STATUS, HELD)
         && refuses(rt, &OTHER, "als: refused 47 NotInDoubt\n")

@@ -182,10 +182,10 @@ fn holds<
 
 /// The folder's state before the takeover, and after it.
 const FOLLOWING: &str =
-    "phase=Following pages=4 end=108 ack=108 checkpoint=108 behind=0 transactions=0 capacity=1048576 left=1048468\n";
+    "phase=Following pages=4 end=108 ack=108 checkpoint=108 behind=0 transactions=0 capacity=1048576 left=1048468 rank=0/108\n";
 
 const PRIMARY: &str =
-    "phase=Primary pages=4 end=108 ack=108 checkpoint=108 behind=0 transactions=0 capacity=1048576 left=1048468\nepoch 1 seals 108\n";
+    "phase=Primary pages=4 end=108 ack=108 checkpoint=108 behind=0 transactions=0 capacity=1048576 left=1048468 rank=108/108\nepoch 1 seals 108\n";
 
 /// Whether what was taken over is refused as a standby, before anybody is called.
 fn follows_no_more<
@@ -216,6 +216,32 @@ fn follows_no_more<
     refuses(rt, &words, "", "als: refused 21 Sealed\n")
 }
 
+/// The first takeover, which was compared with no other node's.
+fn takes_over_alone<
+    R: AllocGlobal
+        + Files<File = File>
+        + Net<Listener = TcpListener, Stream = TcpStream>
+        + Threads
+        + Wait
+        + Sync
+        + Clock
+        + RandomSource
+        + Clone
+        + Send
+        + Drop
+        + 'static,
+>(rt: &R) -> bool {
+    let takeover = ["als", "takeover", "followed"];
+    let mut output = Vec::new(rt.alloc());
+    let mut errors = Vec::new(rt.alloc());
+    let status = program(rt, &takeover, io::empty(), &mut output, &mut errors);
+    let told =
+        "als: followed: its rank 0/108 was compared with no other node's (--peer): see that rank= of als status of each is not above it. Where one is, als rewind --dir followed --to 108 takes this one back, before it answers clients\n";
+    status == 0
+        && output.as_slice() == "end=108\n0/0 aa\n".as_bytes()
+        && errors.as_slice() == told.as_bytes()
+}
+
 /// What the folder then holds, and a takeover, twice.
 fn takes_over<
     R: AllocGlobal
@@ -242,13 +268,7 @@ fn takes_over<
 80 end trans=1 prev=52
 ",
         )
-        && prints(
-            rt,
-            &takeover,
-            "end=108
-0/0 aa
-",
-        )
+        && takes_over_alone(rt)
         && prints(
             rt,
             &takeover,
@@ -295,17 +315,18 @@ fn a_standby_follows_and_takes_over(rt: HostRuntime) {
 /// that failed.
 #[test]
 fn standbys_that_are_refused(rt: HostRuntime) {
-    let bad = "als: refused 37 BadConfig\n";
+    let pages =
+        "als: refused 37 BadConfig\nals: --pages is 4097: wanted is a number from 1 to 4096\n";
+    let blocks =
+        "als: refused 37 BadConfig\nals: --log-blocks is 4194305: wanted is a number from 1 to 4194304\n";
+    let workers =
+        "als: refused 37 BadConfig\nals: --workers is 9: wanted is a number from 0 to 8\n";
     let rows = [
-        ("0", "2048", "4"),
-        ("4097", "2048", "4"),
-        ("18446744073709551615", "1", "4"),
-        ("4", "0", "4"),
-        ("4", "4194305", "0"),
-        ("4", "2048", "9"),
-        ("4", "2048", "18446744073709551615"),
+        ("4097", "2048", "4", pages),
+        ("4", "4194305", "0", blocks),
+        ("4", "2048", "9", workers),
     ];
-    for (pages, blocks, workers) in rows {
+    for (pages, blocks, workers, bad) in rows {
         let words = [
             "als",
             "standby",
@@ -322,14 +343,23 @@ fn standbys_that_are_refused(rt: HostRuntime) {
         ];
         assert!(rt; refuses(&rt, &words, "", bad) || refuses(&rt, &words, "", bad));
     }
+    let readers =
+        "als: refused 37 BadConfig\nals: --readers is 9: wanted is a number from 1 to 8\n";
+    let window =
+        "als: refused 37 BadConfig\nals: --window is 65: wanted is a number from 1 to 64\n";
+    let unserved = "als: refused 37 BadConfig\nals: --readers has no effect without --serve\n";
+    let unheard = "als: refused 37 BadConfig\nals: --window has no effect without --listen\n";
+    let alone = "als: refused 37 BadConfig\nals: --follower has no effect without --listen\n";
     let goes_on = [
-        ("--keep", "--readers", "0"),
-        ("--keep", "--readers", "9"),
-        ("--keep", "--workers", "9"),
-        ("--serve=127.0.0.1:0", "--readers", "18446744073709551615"),
-        ("--serve=127.0.0.1:0", "--workers", "9"),
+        ("--keep", "--readers", "2", unserved),
+        ("--keep", "--workers", "9", workers),
+        ("--keep", "--window", "16", unheard),
+        ("--keep", "--follower", "10.0.0.1", alone),
+        ("--serve=127.0.0.1:0", "--readers", "9", readers),
+        ("--serve=127.0.0.1:0", "--workers", "9", workers),
+        ("--listen=127.0.0.1:0", "--window", "65", window),
     ];
-    for (flag, name, number) in goes_on {
+    for (flag, name, number, bad) in goes_on {
         let words = [
             "als",
             "standby",

@@ -158,7 +158,8 @@ fn tells_of_nothing<
     let mut output = Vec::new(rt.alloc());
     let mut errors = Vec::new(rt.alloc());
     let status = program(rt, &takeover, io::empty(), &mut output, &mut errors);
-    let told = "als: nothing holds no record: nothing was ever followed there\n";
+    let told =
+        "als: nothing holds no record: nothing was ever followed there\nals: nothing: its rank 0/16 was compared with no other node's (--peer): see that rank= of als status of each is not above it. Where one is, als rewind --dir nothing --to 16 takes this one back, before it answers clients\n";
     status == 0
         && output.as_slice() == "end=16\nempty\n".as_bytes()
         && errors.as_slice() == told.as_bytes()

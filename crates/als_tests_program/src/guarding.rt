@@ -15,13 +15,11 @@ use std::{fs, io};
 const TOKEN: &str = "guarded/token";
 
 /// A primary that asks for the token, at an address that all reach.
-const GUARDED: [&str; 10] = [
+const GUARDED: [&str; 8] = [
     "als",
     "primary",
     "--dir",
     "guarded/db",
-    "--pages",
-    "4",
     "--serve",
     "0.0.0.0:0",
     "--token-file",
@@ -104,15 +102,15 @@ fn is_unfit<
     assert!(rt; fs::remove_file(rt, TOKEN).is_ok());
 }
 
-/// Whoever reaches an address may commit there only with a token, which only the owner of its file has. No
-/// database is laid out before that is known.
+/// Whoever reaches an address may commit there only with a token, which only the owner of its file has. The
+/// folder is not looked at before that is known.
 #[test]
 fn an_address_of_all_wants_a_token(rt: HostRuntime) {
     assert!(rt; fs::create_dir(&rt, "guarded").is_ok());
     assert!(rt; fs::create_dir(&rt, "guarded/db").is_ok());
     is_told(
         &rt,
-        &GUARDED[..8],
+        &GUARDED[..6],
         "als: 0.0.0.0:0 is not an address of the loopback, so that anybody could commit: give --token-file\n",
     );
     is_told(

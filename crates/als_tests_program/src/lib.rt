@@ -13,54 +13,12 @@ mod making;
 // The script language: its bad lines.
 #[cfg(test)]
 mod language;
-// What is fed.
-#[cfg(test)]
-mod feeding;
-// Redo of pages, and their blocks.
-#[cfg(test)]
-mod redoing;
-// Leases in worker slots.
-#[cfg(test)]
-mod leasing;
-// What is acknowledged, and devices that fail.
-#[cfg(test)]
-mod acknowledging;
 // What is said beside what a command answers.
 #[cfg(test)]
 mod explaining;
-// Records that may not follow, and the transaction table.
-#[cfg(test)]
-mod judging;
-// Takeovers.
-#[cfg(test)]
-mod taking_over;
-// What a takeover is refused by.
-#[cfg(test)]
-mod takeover_refusals;
 // Transactions in doubt.
 #[cfg(test)]
 mod deciding;
-// Checkpoints.
-#[cfg(test)]
-mod checkpointing;
-// Crashes, and what a restart finds.
-#[cfg(test)]
-mod restarting;
-// A standby that recovers, or is down.
-#[cfg(test)]
-mod recovering;
-// Crashes under a checkpoint.
-#[cfg(test)]
-mod checkpoint_crashes;
-// Takeovers that crash.
-#[cfg(test)]
-mod crashing;
-// The scripts of the folder of examples.
-#[cfg(test)]
-mod examples;
-// Requests that want memory.
-#[cfg(test)]
-mod memory;
 // The command line.
 #[cfg(test)]
 mod asking;
@@ -76,6 +34,9 @@ mod following;
 // Sessions of ends that go on, and what ends them all the same.
 #[cfg(test)]
 mod going_on;
+// A takeover beside nodes that hold more, and commits that are lost.
+#[cfg(test)]
+mod weighing;
 // A takeover of one of two standbys, and what the others do then.
 #[cfg(test)]
 mod three_nodes;
@@ -97,6 +58,9 @@ mod committing;
 // Who may commit to `als primary`.
 #[cfg(test)]
 mod guarding;
+// A new database.
+#[cfg(test)]
+mod laying_out;
 // Looks back in a log.
 #[cfg(test)]
 mod looking_back;

@@ -3,16 +3,10 @@ use als_program::{Terminals, program_on};
 use std::{fs, io};
 
 /// A new database.
-const NEW: [&str; 8] = [
-    "als",
-    "commit",
-    "--dir",
-    "past",
-    "--pages",
-    "4",
-    "--log-blocks",
-    "1",
-];
+const NEW: [&str; 7] = ["als", "new", "past", "--pages", "4", "--log-blocks", "1"];
+
+/// Transactions in it.
+const COMMIT: [&str; 4] = ["als", "commit", "--dir", "past"];
 
 /// Three transactions, and their answers.
 const LINES: (&str, &str) = (
@@ -96,7 +90,7 @@ const LOOKS: [(&[&str], &str, &str, u8); 16] = [
     ),
     (
         &["als", "status", "past"],
-        "phase=Following pages=4 end=329 ack=329 checkpoint=329 behind=0 transactions=0 capacity=1536 left=1207\nrole primary epoch=0\n",
+        "phase=Following pages=4 end=329 ack=329 checkpoint=329 behind=0 transactions=0 capacity=1536 left=1207 rank=0/329\nrole primary epoch=0\n",
         "",
         0,
     ),
@@ -106,7 +100,8 @@ const LOOKS: [(&[&str], &str, &str, u8); 16] = [
 fn a_log_is_looked_back_in(rt: HostRuntime) {
     assert!(rt; fs::create_dir(&rt, "past").is_ok());
     let (lines, answers) = LINES;
-    run_row(&rt, Row::of(&NEW, lines, answers));
+    run_row(&rt, Row::of(&NEW, "", "pages=4 capacity=512\n"));
+    run_row(&rt, Row::of(&COMMIT, lines, answers));
     for look in LOOKS {
         let (words, output, errors, status) = look;
         run_row(&rt, Row::of(words, "", output).failing(errors, status));

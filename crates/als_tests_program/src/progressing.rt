@@ -81,7 +81,8 @@ fn made<
     }
 }
 
-/// What a takeover that has to redo this log says on standard error. `None`: allocation failed.
+/// What a takeover that has to redo this log says on standard error, but that it was compared with no other
+/// node's. `None`: allocation failed.
 fn said<
     R: AllocGlobal
         + Files<File = File>
@@ -105,7 +106,17 @@ fn said<
     let words = ["als", "takeover", "--dir", "waiting"];
     let mut said = Vec::new(rt.alloc());
     let status = program_on(rt, terminals, &words, io::empty(), io::sink(), &mut said);
-    if status == 0 { Some(said) } else { None }
+    if status != 0 {
+        return None;
+    }
+    let mut kept = Vec::new(rt.alloc());
+    for line in said.split(|b| *b == b'\n') {
+        if !line.is_empty() && !line.starts_with(b"als: waiting: its rank ") {
+            kept.extend_from_slice(line).ok()?;
+            kept.push(b'\n').ok()?;
+        }
+    }
+    Some(kept)
 }
 
 /// The same, twice at most.

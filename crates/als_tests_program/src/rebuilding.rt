@@ -133,7 +133,8 @@ fn pages_are_made_anew(rt: HostRuntime) {
     assert!(rt; refuses(&rt, &COMMIT, "", BAD) || refuses(&rt, &COMMIT, "", BAD));
     assert!(rt; refuses(&rt, &RESOLVE, "", BAD) || refuses(&rt, &RESOLVE, "", BAD));
     assert!(rt; refuses(&rt, &PRIMARY, "", BAD) || refuses(&rt, &PRIMARY, "", BAD));
-    let range = "als: refused 37 BadConfig\n";
+    let range =
+        "als: refused 37 BadConfig\nals: --connections is 0: wanted is a number from 1 to 64\n";
     assert!(rt; refuses(&rt, &NO_PRIMARY, "", range) || refuses(&rt, &NO_PRIMARY, "", range));
     rebuilt(&rt);
     // A folder without its pages, with the left of a stop.

@@ -11,17 +11,6 @@ use std::time::Clock;
 /// A world as most scripts have it.
 pub const WORLD: &str = "world pages=4 log=8 frames=4 workers=2 pending=1000\n";
 
-/// A transaction of one update, at 16, 52 and 80, fed whole.
-pub const FED: (&str, &str) = (
-    "world pages=4 log=8 frames=4 workers=2 pending=1000
-u 1 0 0 - aa
-commit 1
-end 1
-feed 16 108
-",
-    "ok taken=92 records=3 end=108\n",
-);
-
 /// A run of the program: its words and its standard input, and then what it writes and answers.
 #[derive(Clone, Copy)]
 pub struct Row<'a> {
@@ -134,54 +123,4 @@ pub fn run_row<
         "{script} wrote to standard error {errors}"
     );
     assert!(rt; status == row.status, "{script} ended with {status}");
-}
-
-/// One text behind the other. A growth that is refused once is met by a second try.
-pub fn joined<
-    R: Abort
-        + AllocGlobal
-        + Files<File = File>
-        + Net<Listener = TcpListener, Stream = TcpStream>
-        + Threads
-        + Wait
-        + Sync
-        + Clock
-        + RandomSource
-        + Clone
-        + Send
-        + Drop
-        + 'static,
->(rt: &R, front: &str, back: &str) -> String {
-    if let Ok(text) = format!(in rt.alloc(); "{front}{back}") {
-        return text;
-    }
-    match format!(in rt.alloc(); "{front}{back}") {
-        Ok(text) => text,
-        Err(_) => panic!(rt; "refused twice"),
-    }
-}
-
-/// Runs scripts that end well, each given by its lines and by what they print. In front of each
-/// stand lines that print this by themselves.
-pub fn run_scripts<
-    R: Abort
-        + AllocGlobal
-        + Files<File = File>
-        + Net<Listener = TcpListener, Stream = TcpStream>
-        + Threads
-        + Wait
-        + Sync
-        + Clock
-        + RandomSource
-        + Clone
-        + Send
-        + Drop
-        + 'static,
->(rt: &R, front: (&str, &str), scripts: &[(&str, &str)]) {
-    let (front, printed) = front;
-    for (lines, output) in scripts {
-        let script = joined(rt, front, lines);
-        let output = joined(rt, printed, output);
-        run_row(rt, Row::sim(script.as_str(), output.as_str()));
-    }
 }

@@ -57,9 +57,10 @@ fn ship_is_refused(rt: HostRuntime) {
 /// A window out of its range is refused before the file or the folder is looked at.
 #[test]
 fn a_window_has_its_range(rt: HostRuntime) {
-    let wanted = "als: refused 37 BadConfig\n";
+    let none = "als: refused 37 BadConfig\nals: --window is 0: wanted is a number from 1 to 64\n";
+    let many = "als: refused 37 BadConfig\nals: --window is 65: wanted is a number from 1 to 64\n";
     for source in ["--log", "--dir"] {
-        for window in ["0", "65"] {
+        for (window, wanted) in [("0", none), ("65", many)] {
             let words = [
                 "als",
                 "ship",
@@ -73,5 +74,26 @@ fn a_window_has_its_range(rt: HostRuntime) {
             ];
             assert!(rt; refuses(&rt, &words, wanted) || refuses(&rt, &words, wanted));
         }
+    }
+}
+
+/// A window has no effect on a session that sends nothing ahead.
+#[test]
+fn a_window_wants_sessions_that_send_ahead(rt: HostRuntime) {
+    let of_file =
+        "als: refused 37 BadConfig\nals: --window has no effect without --keep or --follow\n";
+    let of_node = "als: refused 37 BadConfig\nals: --window has no effect without --keep\n";
+    for (source, wanted) in [("--log", of_file), ("--dir", of_node)] {
+        let words = [
+            "als",
+            "ship",
+            source,
+            "nowhere",
+            "--listen",
+            "127.0.0.1:0",
+            "--window",
+            "16",
+        ];
+        assert!(rt; refuses(&rt, &words, wanted) || refuses(&rt, &words, wanted));
     }
 }

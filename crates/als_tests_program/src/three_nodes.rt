@@ -118,8 +118,11 @@ struct Session<'a> {
 
 const DIVERGED: &str = "als: refused 42 Diverged 144\n";
 
-const PARTED: &str = "als: refused 42 Diverged 144
-als: node-c: the two logs parted at offset 144: the node that serves goes on from a takeover that was sealed there, and this log goes past it. What it holds past 144 is not in that node's log: als rewind --dir node-c --to 144 keeps that in a file beside the folder, which follows on then; or keep the folder, and follow with an empty one
+const PARTED: &str = "als: commits behind 144: 1
+als:   transaction 2 at 144
+als: clients may have been answered for this 1 commit; perhaps the wrong node was taken over
+als: refused 42 Diverged 144
+als: node-c: the two logs parted at offset 144: the node that serves goes on from a takeover that was sealed there, and this log goes past it. What it holds past 144 is not in that node's log. First see that both are one log up to there, by als cut PATH --at 144 | sha256sum of both: where they differ, or that node's log was begun by als begin, it is another log, and only an empty folder follows it. Where they are the same, als rewind --dir node-c --to 144 keeps what is past it in a file beside the folder, which follows on then; or keep the folder, and follow with an empty one
 ";
 
 /// Two standbys of one primary, and one of its longer log. Then the first is taken over: the second goes

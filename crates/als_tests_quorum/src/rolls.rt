@@ -1,3 +1,4 @@
+use crate::wanting::up_to;
 use als_callers::{Allowed, Block};
 use als_quorum::Roll;
 use als_record::Lsn;
@@ -41,11 +42,11 @@ fn seats_are_taken(alloc: Global) -> Option<bool> {
     let mut roll = roll(alloc, 9)?;
     let mut right = true;
     for seat in 0..8 {
-        right = right && roll.join(v4(1), at(1)) == Some(seat);
+        right = right && roll.join(v4(1), None, at(1)) == Some(seat);
     }
-    right = right && roll.join(v4(2), at(1)).is_none();
+    right = right && roll.join(v4(2), None, at(1)).is_none();
     roll.leave(3);
-    Some(right && roll.join(v4(2), at(1)) == Some(3))
+    Some(right && roll.join(v4(2), None, at(1)) == Some(3))
 }
 
 #[test]
@@ -60,18 +61,18 @@ fn a_ninth_finds_no_seat(rt: HostRuntime) -> Result<(), Fail> {
 fn marks_rise(alloc: Global) -> Option<[Option<u64>; 5]> {
     let mut roll = roll(alloc, 2)?;
     let mut seen = [None; 5];
-    let one = roll.join(v4(1), at(1))?;
-    let two = roll.join(v4(2), at(1))?;
-    roll.acknowledge(one, Lsn(108), at(2));
+    let one = roll.join(v4(1), None, at(1))?;
+    let two = roll.join(v4(2), None, at(1))?;
+    roll.acknowledge(one, Lsn(108), 0, at(2));
     seen[0] = acknowledged(&roll, 0);
-    roll.acknowledge(one, Lsn(52), at(3));
+    roll.acknowledge(one, Lsn(52), 0, at(3));
     seen[1] = acknowledged(&roll, 0);
     seen[2] = acknowledged(&roll, 1);
     roll.leave(one);
-    roll.acknowledge(one, Lsn(108), at(4));
+    roll.acknowledge(one, Lsn(108), 0, at(4));
     seen[3] = acknowledged(&roll, 0);
-    roll.acknowledge(two, Lsn(16), at(4));
-    roll.join(v4(1), at(5))?;
+    roll.acknowledge(two, Lsn(16), 0, at(4));
+    roll.join(v4(1), None, at(5))?;
     seen[4] = acknowledged(&roll, 0);
     Some(seen)
 }
@@ -98,16 +99,16 @@ fn enough(alloc: Global, peers: [IpAddr; 3], counts: &str) -> Option<u32> {
     let allowed = block(alloc, counts)?;
     let mut roll = roll(alloc, 8)?;
     for peer in peers {
-        let seat = roll.join(peer, at(1))?;
-        roll.acknowledge(seat, Lsn(108), at(2));
+        let seat = roll.join(peer, None, at(1))?;
+        roll.acknowledge(seat, Lsn(108), 0, at(2));
     }
     let mut most = 0;
     for count in 0..4 {
-        if roll.has_enough(&allowed, count, Lsn(108)) {
+        if roll.has_enough(&allowed, count, up_to(108)) {
             most = count;
         }
     }
-    if roll.has_enough(&allowed, 1, Lsn(109)) {
+    if roll.has_enough(&allowed, 1, up_to(109)) {
         return None;
     }
     Some(most)

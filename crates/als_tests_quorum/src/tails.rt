@@ -8,7 +8,7 @@ use std::time::{Clock, Duration};
 /// Waits, at most this many milliseconds, until a log may be read past 52. Returns its end, and whether it
 /// is closed.
 fn wait_past<R: Wait + Clock>(rt: &R, tail: &Tail, millis: u64) -> (u64, bool) {
-    let reach = tail.wait_past(rt, 52, Duration::from_millis(millis));
+    let reach = tail.wait_past(rt, 52, 0, Duration::from_millis(millis));
     (reach.end.0, reach.is_closed)
 }
 

@@ -1,3 +1,4 @@
+use crate::wanting::up_to;
 use als_callers::{Allowed, Block};
 use als_quorum::Quorum;
 use als_record::Lsn;
@@ -19,8 +20,8 @@ fn v4(last: u8) -> IpAddr {
 /// A quorum with a follower at each of two addresses, in seats 0 and 1. None: allocation failed.
 fn two<R: Wait + Clock>(rt: &R, alloc: Global) -> Option<Quorum> {
     let quorum = Quorum::new(alloc, 8, Allowed::new(alloc)).ok()?;
-    quorum.join(rt, v4(1))?;
-    quorum.join(rt, v4(2))?;
+    quorum.join(rt, v4(1), None)?;
+    quorum.join(rt, v4(2), None)?;
     Some(quorum)
 }
 
@@ -32,16 +33,16 @@ fn made<R: Wait + Clock>(rt: &R, alloc: Global) -> Option<Quorum> {
 /// Waits for two followers, at most this many milliseconds.
 fn wait_for_two<R: Wait + Clock>(rt: &R, quorum: &Quorum, millis: u64) -> bool {
     quorum
-        .wait_for(rt, 2, Lsn(108), Duration::from_millis(millis))
+        .wait_for(rt, 2, up_to(108), Duration::from_millis(millis))
         .is_enough
 }
 
 /// Acknowledges in both seats, one after another.
 fn acknowledge_both<R: Wait + Clock>(rt: &R, quorum: &Quorum) {
     thread::sleep(rt, Duration::from_millis(20));
-    quorum.acknowledge(rt, 1, Lsn(108));
+    quorum.acknowledge(rt, 1, Lsn(108), 0);
     thread::sleep(rt, Duration::from_millis(20));
-    quorum.acknowledge(rt, 0, Lsn(200));
+    quorum.acknowledge(rt, 0, Lsn(200), 0);
 }
 
 #[test]
@@ -55,18 +56,18 @@ fn a_leader_is_woken(rt: HostRuntime) -> Result<(), Fail> {
         move || acknowledge_both(rt, quorum),
     );
     assert!(rt; found);
-    assert!(rt; quorum.wait_for(rt, 2, Lsn(108), NONE).is_enough);
-    assert!(rt; quorum.wait_for(rt, 0, Lsn(1_000), NONE).is_enough);
-    assert!(rt; !quorum.wait_for(rt, 2, Lsn(109), NONE).is_enough);
+    assert!(rt; quorum.wait_for(rt, 2, up_to(108), NONE).is_enough);
+    assert!(rt; quorum.wait_for(rt, 0, up_to(1_000), NONE).is_enough);
+    assert!(rt; !quorum.wait_for(rt, 2, up_to(109), NONE).is_enough);
     Ok(())
 }
 
 #[test]
 fn a_leader_gives_up_in_time(rt: HostRuntime) -> Result<(), Fail> {
     let quorum = made(&rt, rt.alloc()).ok_or("memory")?;
-    quorum.acknowledge(&rt, 0, Lsn(108));
+    quorum.acknowledge(&rt, 0, Lsn(108), 0);
     assert!(rt; !wait_for_two(&rt, &quorum, 20));
-    quorum.acknowledge(&rt, 1, Lsn(108));
+    quorum.acknowledge(&rt, 1, Lsn(108), 0);
     assert!(rt; wait_for_two(&rt, &quorum, 20));
     quorum.leave(&rt, 1);
     assert!(rt; !wait_for_two(&rt, &quorum, 20));
@@ -96,7 +97,7 @@ fn a_close_wakes_who_waits(rt: HostRuntime) -> Result<(), Fail> {
 #[test]
 fn rows_are_copied(rt: HostRuntime) -> Result<(), Fail> {
     let quorum = made(&rt, rt.alloc()).ok_or("memory")?;
-    quorum.acknowledge(&rt, 1, Lsn(108));
+    quorum.acknowledge(&rt, 1, Lsn(108), 0);
     let [one, two, three, ..] = quorum.members(&rt);
     assert!(rt; three.is_none());
     assert!(rt; one.map(|member| member.row.acknowledged.0) == Some(0));
@@ -113,8 +114,8 @@ fn one_and_a_stranger<R: Wait + Clock>(rt: &R, alloc: Global) -> Option<Quorum> 
     let mut allowed = Allowed::new(alloc);
     allowed.add(Block::parse("10.0.0.2")?).ok()?;
     let quorum = Quorum::new(alloc, 8, allowed).ok()?;
-    quorum.join(rt, v4(9))?;
-    quorum.join(rt, v4(2))?;
+    quorum.join(rt, v4(9), None)?;
+    quorum.join(rt, v4(2), None)?;
     Some(quorum)
 }
 
@@ -123,11 +124,11 @@ fn a_stranger_confirms_nothing(rt: HostRuntime) -> Result<(), Fail> {
     let alloc = rt.alloc();
     let made = one_and_a_stranger(&rt, alloc).or(one_and_a_stranger(&rt, alloc));
     let quorum = made.ok_or("memory")?;
-    quorum.acknowledge(&rt, 0, Lsn(108));
-    assert!(rt; !quorum.wait_for(&rt, 1, Lsn(108), NONE).is_enough);
-    quorum.acknowledge(&rt, 1, Lsn(108));
-    assert!(rt; quorum.wait_for(&rt, 1, Lsn(108), NONE).is_enough);
-    assert!(rt; !quorum.wait_for(&rt, 2, Lsn(108), NONE).is_enough);
+    quorum.acknowledge(&rt, 0, Lsn(108), 0);
+    assert!(rt; !quorum.wait_for(&rt, 1, up_to(108), NONE).is_enough);
+    quorum.acknowledge(&rt, 1, Lsn(108), 0);
+    assert!(rt; quorum.wait_for(&rt, 1, up_to(108), NONE).is_enough);
+    assert!(rt; !quorum.wait_for(&rt, 2, up_to(108), NONE).is_enough);
     let [stranger, follower, ..] = quorum.members(&rt);
     assert!(rt; stranger.map(|member| member.counts) == Some(false));
     assert!(rt; follower.map(|member| member.counts) == Some(true));

@@ -2,7 +2,7 @@ use crate::log::LOG;
 use als_drive::Progress;
 use als_progress::{Advance, Work};
 use als_record::Lsn;
-use als_rewind::{Fault, rewind};
+use als_rewind::{Fault, Loses, LostCommits, rewind};
 use std::alloc::Global;
 use std::fs;
 use std::fs::File;
@@ -25,6 +25,10 @@ impl Progress for Quiet {
 
 impl Advance for Quiet {
     fn advances(&mut self, _work: Work, _done: u64, _whole: u64) {}
+}
+
+impl Loses for Quiet {
+    fn loses(&mut self, _losses: &LostCommits) {}
 }
 
 /// A name in a folder.
@@ -70,10 +74,11 @@ pub fn is_taken_back<R: AllocGlobal + Files<File = File> + Wait>(
     rt: &R,
     dir: &str,
     to: u64,
+    agreed: Option<u64>,
     printed: &str,
 ) -> Result<bool, Fault> {
     let mut output = Vec::new(rt.alloc());
-    rewind(rt, dir, Lsn(to), &mut Quiet, &mut output)?;
+    rewind(rt, dir, Lsn(to), agreed, &mut Quiet, &mut output)?;
     Ok(output.as_slice() == printed.as_bytes())
 }
 

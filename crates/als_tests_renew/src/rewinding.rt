@@ -22,10 +22,10 @@ fn a_node_is_taken_back(rt: HostRuntime) {
     let (front, past) = LOG.split_at(80);
     let (_, between) = front.split_at(52);
     assert!(rt; lay_out(&rt, "back").is_some());
-    assert!(rt; is_taken_back(&rt, "back", 80, "end=80 ack=80 past=73\n") == Ok(true));
+    assert!(rt; is_taken_back(&rt, "back", 80, None, "end=80 ack=80 past=73\n") == Ok(true));
     keeps(&rt, "back.past-80-to-153.log", past);
-    assert!(rt; is_taken_back(&rt, "back", 80, "end=80 ack=80 past=0\n") == Ok(true));
-    assert!(rt; is_taken_back(&rt, "back", 52, "end=52 ack=52 past=28\n") == Ok(true));
+    assert!(rt; is_taken_back(&rt, "back", 80, None, "end=80 ack=80 past=0\n") == Ok(true));
+    assert!(rt; is_taken_back(&rt, "back", 52, Some(1), "end=52 ack=52 past=28\n") == Ok(true));
     keeps(&rt, "back.past-52-to-80.log", between);
     assert!(rt; fs::remove_dir_all(&rt, "back").is_ok());
 }
@@ -36,14 +36,14 @@ fn an_lsn_that_is_none_is_refused(rt: HostRuntime) {
     let below = Lsn(80);
     let end = Lsn(153);
     assert!(rt; lay_out(&rt, "none").is_some());
-    let refused = is_taken_back(&rt, "none", 81, "");
+    let refused = is_taken_back(&rt, "none", 81, None, "");
     assert!(rt; refused == Err(Fault::NoBoundary { below }));
-    let refused = is_taken_back(&rt, "none", 15, "");
+    let refused = is_taken_back(&rt, "none", 15, None, "");
     assert!(rt; refused == Err(Fault::Look(LookFault::InHeader)));
-    let refused = is_taken_back(&rt, "none", 154, "");
+    let refused = is_taken_back(&rt, "none", 154, None, "");
     assert!(rt; refused == Err(Fault::Look(LookFault::PastEnd { end })));
     assert!(rt; fs::symlink_metadata(&rt, "none.past-81-to-153.log").is_err());
-    assert!(rt; is_taken_back(&rt, "none", 153, "end=153 ack=153 past=0\n") == Ok(true));
+    assert!(rt; is_taken_back(&rt, "none", 153, None, "end=153 ack=153 past=0\n") == Ok(true));
     assert!(rt; fs::remove_dir_all(&rt, "none").is_ok());
 }
 
@@ -55,11 +55,11 @@ fn another_file_of_the_name_is_left(rt: HostRuntime) {
     let other = [0; 73];
     assert!(rt; lay_out(&rt, "other").is_some());
     assert!(rt; fs::write(&rt, kept, &other).is_ok());
-    assert!(rt; is_taken_back(&rt, "other", 80, "") == Err(Fault::Kept));
+    assert!(rt; is_taken_back(&rt, "other", 80, None, "") == Err(Fault::Kept));
     assert!(rt; fs::write(&rt, kept, &other[..72]).is_ok());
-    assert!(rt; is_taken_back(&rt, "other", 80, "") == Err(Fault::Kept));
+    assert!(rt; is_taken_back(&rt, "other", 80, None, "") == Err(Fault::Kept));
     assert!(rt; fs::write(&rt, kept, past).is_ok());
-    assert!(rt; is_taken_back(&rt, "other", 80, "end=80 ack=80 past=73\n") == Ok(true));
+    assert!(rt; is_taken_back(&rt, "other", 80, None, "end=80 ack=80 past=73\n") == Ok(true));
     keeps(&rt, kept, past);
     assert!(rt; fs::remove_dir_all(&rt, "other").is_ok());
 }
@@ -81,10 +81,26 @@ fn it_is_run_again(rt: HostRuntime) {
     let (_, past) = LOG.split_at(80);
     assert!(rt; lay_out(&rt, "again").is_some());
     assert!(rt; interrupt(&rt, "again", "again.past-80-to-153.log.new").is_some());
-    assert!(rt; is_taken_back(&rt, "again", 80, "end=80 ack=80 past=73\n") == Ok(true));
+    assert!(rt; is_taken_back(&rt, "again", 80, None, "end=80 ack=80 past=73\n") == Ok(true));
     keeps(&rt, kept, past);
     assert!(rt; fs::symlink_metadata(&rt, "again.past-80-to-153.log.new").is_err());
     assert!(rt; fs::symlink_metadata(&rt, "again/pages.new").is_err());
     assert!(rt; fs::symlink_metadata(&rt, "again/control.new").is_err());
     assert!(rt; fs::remove_dir_all(&rt, "again").is_ok());
+}
+
+/// What lies behind the LSN has a commit: without its number, and with another one, nothing is written.
+#[test]
+fn a_commit_is_lost_only_by_its_number(rt: HostRuntime) {
+    let lost = Err(Fault::Loses { commits: 1 });
+    assert!(rt; lay_out(&rt, "lost").is_some());
+    assert!(rt; is_taken_back(&rt, "lost", 52, None, "") == lost);
+    assert!(rt; is_taken_back(&rt, "lost", 52, Some(2), "") == lost);
+    assert!(rt; fs::symlink_metadata(&rt, "lost.past-52-to-153.log").is_err());
+    assert!(rt; is_taken_back(&rt, "lost", 153, None, "end=153 ack=153 past=0\n") == Ok(true));
+    let back = is_taken_back(&rt, "lost", 52, Some(1), "end=52 ack=52 past=101\n");
+    assert!(rt; back == Ok(true));
+    assert!(rt; is_taken_back(&rt, "lost", 52, Some(1), "end=52 ack=52 past=0\n") == Ok(true));
+    assert!(rt; fs::remove_file(&rt, "lost.past-52-to-153.log").is_ok());
+    assert!(rt; fs::remove_dir_all(&rt, "lost").is_ok());
 }

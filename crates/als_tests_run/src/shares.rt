@@ -138,14 +138,18 @@ fn handles_drive_one_engine(rt: HostRuntime) {
     assert!(rt; is_driven(&rt, alloc) == Some(true) || is_driven(&rt, alloc) == Some(true));
 }
 
+/// Whether a handle that follows is refused each event of a takeover, and leaves the engine following. `None`:
+/// allocation failed.
+fn takes_nothing_over<R: Wait>(rt: &R, alloc: Global) -> Option<bool> {
+    let engine = standby(rt, alloc)?;
+    let (engine, refused) = refused(rt, alloc, engine)?;
+    Some(refused && engine.status().state == State::Following)
+}
+
 #[test]
 fn a_handle_that_follows_takes_nothing_over(rt: HostRuntime) {
-    let engine = standby(&rt, rt.alloc()).expect(&rt, "a standby");
-    match refused(&rt, rt.alloc(), engine) {
-        Some((engine, refused)) => assert!(rt;
-            refused && engine.status().state == State::Following
-        ),
-        // Allocation failed.
-        None => {}
-    }
+    let alloc = rt.alloc();
+    assert!(rt;
+        takes_nothing_over(&rt, alloc) == Some(true) || takes_nothing_over(&rt, alloc) == Some(true)
+    );
 }

@@ -51,6 +51,8 @@ impl Marks for Ears {
         self.account.begin(from);
     }
 
+    fn send(&mut self) {}
+
     fn acknowledge(&mut self, lsn: Lsn) {
         self.count = self.count.saturating_add(1);
         self.last = Some(lsn);

@@ -37,6 +37,7 @@ impl Reports for Fixed {
             failures: 3,
             last_fault: Some(43),
             epoch: Some(1),
+            greatest: Some(9),
             work: Work {
                 transactions: 9,
                 groups: 4,
@@ -176,8 +177,9 @@ const NOTHING: &str =
 
 const STATUS: &str =
     "HTTP/1.1 200 OK\r\ncontent-type: application/json\r\ncache-control: no-store\r\n\
-    content-length: 140\r\n\r\n{\"state\":\"following\",\"end\":108,\"acknowledged\":80,\"pending\":5,\
-    \"leases\":1,\"commits\":1,\"seconds_since_last_frame\":2,\"capacity\":1024,\"left\":916}";
+    content-length: 191\r\n\r\n{\"state\":\"following\",\"end\":108,\"acknowledged\":80,\"pending\":5,\
+    \"leases\":1,\"commits\":1,\"seconds_since_last_frame\":2,\"capacity\":1024,\"left\":916,\
+    \"takeovers_left\":31,\"transactions_left\":4294967286}";
 
 #[test]
 fn each_path_is_answered(rt: HostRuntime) -> Result<(), Fail> {
@@ -299,6 +301,8 @@ fn metrics_and_health_are_answered(rt: HostRuntime) -> Result<(), Fail> {
         "\nals_info{version=\"0.2.0\",role=\"standby\",epoch=\"1\"} 1\n",
         "\nals_log_capacity_bytes 1024\n",
         "\nals_log_left_bytes 916\n",
+        "\nals_takeovers_left 31\n",
+        "\nals_transactions_left 4294967286\n",
         "\n# TYPE als_session_failures_total counter\nals_session_failures_total 3\n",
         "\nals_session_last_fault 43\n",
     ] {

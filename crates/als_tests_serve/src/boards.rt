@@ -1,4 +1,4 @@
-use als_record::Lsn;
+use als_record::{Lsn, TransId};
 use als_report::{Board, Follower, FollowerRow, Refusals, Report, Reports, State, Watch, Work};
 use arrayvec::ArrayVec;
 use std::io;
@@ -36,6 +36,7 @@ fn a_board_tells_what_was_last_seen(rt: HostRuntime) -> Result<(), Fail> {
     board.note_answer();
     board.set_capacity(1024);
     board.set_epoch(2);
+    board.note_number(TransId(12));
     board.note_failure(43);
     board.note_failure(41);
     let wanted = Report {
@@ -50,6 +51,7 @@ fn a_board_tells_what_was_last_seen(rt: HostRuntime) -> Result<(), Fail> {
         failures: 2,
         last_fault: Some(41),
         epoch: Some(2),
+        greatest: Some(12),
         work: Work::NOTHING,
         in_doubt: 0,
         sync: 0,

@@ -10,6 +10,9 @@ mod boards;
 // The page.
 #[cfg(test)]
 mod page;
+// The roles that load balancers ask for.
+#[cfg(test)]
+mod roles;
 // What a primary reports.
 #[cfg(test)]
 mod primary;
@@ -19,6 +22,9 @@ mod loopback;
 // Guests of threads that commit.
 #[cfg(test)]
 mod guests;
+// The last answer of a connection.
+#[cfg(test)]
+mod leaving;
 // Transactions, spelled.
 #[cfg(test)]
 mod written;

@@ -7,9 +7,9 @@ use std::test::*;
 /// What every node's status has, and behind it what a node has that takes commits.
 const STATUS: &str =
     "HTTP/1.1 200 OK\r\ncontent-type: application/json\r\ncache-control: no-store\r\n\
-    content-length: 462\r\n\r\n{\"state\":\"committing\",\"end\":108,\"acknowledged\":80,\"pending\":5,\
-    \"leases\":1,\"commits\":1,\"seconds_since_last_frame\":2,\"capacity\":1024,\"left\":916,\
-    \"transactions\":9,\"groups\":4,\"force_microseconds\":1500007,\"in_doubt\":3,\"sync\":1,\"followers\":[\
+    content-length: 525\r\n\r\n{\"state\":\"committing\",\"end\":108,\"acknowledged\":80,\"pending\":5,\
+    \"leases\":1,\"commits\":1,\"seconds_since_last_frame\":2,\"capacity\":1024,\"left\":916,\"takeovers_left\":31,\"transactions_left\":4294967286,\
+    \"transactions\":9,\"groups\":4,\"force_microseconds\":1500007,\"in_doubt\":3,\"sync\":1,\"new\":false,\"followers\":[\
     {\"address\":\"127.0.0.1\",\"acknowledged\":80,\"behind\":0,\"seconds_behind\":0,\
     \"connected\":70,\"counts\":true},\
     {\"address\":\"::1\",\"acknowledged\":52,\"behind\":28,\"seconds_behind\":7,\

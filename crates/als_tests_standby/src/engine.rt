@@ -1,17 +1,13 @@
 ghost use Rattle.std.specs.Prelude.{◌<◌};
 
-// What readers see.
-mod reading;
 // A recovery, and its end.
 mod recovery;
 // What a writer asks.
 mod writer;
 
-use crate::common::{CONFIG, TEXT, devices_in_memory, redo};
+use crate::common::{CONFIG, TEXT, devices_in_memory};
 use als_disk::{BlockDisk, FailingDisk, Fuse, MemDisk};
-use als_engine::{
-    Answer, Config, Disks, Engine, Fault, Fed, FeedFault, Reply, State, Status, Step,
-};
+use als_engine::{Config, Disks, Engine, Fault, Fed, FeedFault, Reply, State, Status, Step};
 use als_record::Lsn;
 use std::alloc::{AllocError, Global};
 use std::process::Abort;
@@ -100,69 +96,6 @@ fn replies_are<R: Wait>(
         }
     }
     Some(engine)
-}
-
-/// Feeds a piece, and once more what is left of it where allocation fails: then the whole records
-/// in front are held, and nothing else has changed.
-fn feed_again(rt: &impl Abort, engine: &mut Engine<Disk>, piece: &[u8]) -> bool {
-    let before = engine.status();
-    match engine.feed(piece) {
-        Ok(fed) => fed.taken == piece.len(),
-        Err(refusal) => {
-            let after = engine.status();
-            assert!(rt; refusal.fault == Fault::Memory);
-            assert!(rt; after.partial == 0);
-            assert!(rt; after.state == State::Following);
-            assert!(rt; after.acknowledged == before.acknowledged);
-            let from = after.end.0.saturating_sub(16) as usize;
-            match text().get(from..) {
-                Some(rest) => engine.feed(rest).is_ok(),
-                None => false,
-            }
-        }
-    }
-}
-
-/// The log in pieces, and the page that it makes.
-fn takes_pieces<R: Wait + Abort>(rt: &R, alloc: Global) -> bool {
-    let Some((mut engine, _)) = standby(rt, alloc, 8) else {
-        return false;
-    };
-    let text = text();
-    for piece in [&text[..1], &text[1..40], &text[40..]] {
-        if engine.status().end == Lsn(108) {
-            break;
-        }
-        assert!(rt; feed_again(rt, &mut engine, piece));
-    }
-    let status = engine.status();
-    assert!(rt; status.end == Lsn(108));
-    assert!(rt; status.acknowledged == Lsn(16));
-    assert!(rt; status.pending == 1);
-    assert!(rt; engine.next_pending(0) == Some(0));
-    let redone = redo(&mut engine, 0);
-    if redone == Err(Fault::Memory) || engine.pages() == 0 {
-        return false;
-    }
-    assert!(rt; redone == Ok(Lsn(16)));
-    assert!(rt; redo(&mut engine, 0) == Err(Fault::NothingToDo));
-    assert!(rt; engine.flush(0) == Err(Fault::LogBehind));
-    assert!(rt; engine.dirty(0).is_some());
-    assert!(rt; engine.dirty(1).is_none());
-    if engine.pages() == 0 {
-        return false;
-    }
-    let shown = match engine.page_now(0) {
-        Ok(page) => page.lsn(),
-        Err(_) => Lsn(0),
-    };
-    assert!(rt; shown == Lsn(16));
-    true
-}
-
-#[test]
-fn a_log_in_pieces_makes_warm_pages(rt: HostRuntime) {
-    assert!(rt; takes_pieces(&rt, rt.alloc()) || takes_pieces(&rt, rt.alloc()));
 }
 
 /// Bytes that are no record, in the room of a partial record that was dropped: their refusal takes
@@ -363,41 +296,6 @@ fn a_format_whose_device_fails_is_refused(rt: HostRuntime) {
                 || formats_so(&rt, alloc, log, control, wanted)
         );
     }
-}
-
-/// A standby over a log device of one block answers a piece so, ends there and goes on.
-fn fills_to<R: Wait + Abort>(rt: &R, alloc: Global, piece: &[u8], wanted: Reply, end: Lsn) -> bool {
-    let Some((engine, _)) = standby(rt, alloc, 1) else {
-        return false;
-    };
-    let Some(engine) = replies_are(rt, engine, &[Step::Feed(piece)], &[wanted]) else {
-        return false;
-    };
-    let status = engine.status();
-    assert!(rt; status.end == end);
-    assert!(rt; status.state == State::Following);
-    true
-}
-
-/// A log device of one block has room for a sixth record and the tail after it only if its value
-/// has one byte.
-fn fills_one_block<R: Wait + Abort>(rt: &R, alloc: Global) -> bool {
-    let all = Reply::Fed(Fed {
-        taken: 216,
-        records: 6,
-    });
-    let full = Reply::FeedRefused(FeedFault {
-        taken: 180,
-        records: 5,
-        fault: Fault::LogFull,
-    });
-    fills_to(rt, alloc, &six_short(), all, Lsn(232))
-        && fills_to(rt, alloc, &six_long(), full, Lsn(196))
-}
-
-#[test]
-fn a_log_device_keeps_room_for_the_tail(rt: HostRuntime) {
-    assert!(rt; fills_one_block(&rt, rt.alloc()) || fills_one_block(&rt, rt.alloc()));
 }
 
 /// How new devices with so many blocks each are refused. `None`: allocation failed, or they were

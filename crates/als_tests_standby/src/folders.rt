@@ -9,6 +9,8 @@ use std::rt::Files;
 mod calls;
 // A folder of which a file was lost.
 mod losing;
+// The file that says which folder it is.
+mod ids;
 // Two folders with names of one file.
 mod locking;
 // The names of files that are open.

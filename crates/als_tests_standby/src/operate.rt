@@ -79,7 +79,7 @@ fn shipping<'a>(log: &'a str, listen: &'a str) -> Shipping<'a> {
 
 // Whether shipping a file with these bytes to an address is refused so, with nothing printed. A
 // growth is refused once at most.
-fn refuses<R: AllocGlobal + Files + Net + Clock>(
+fn refuses<R: AllocGlobal + Files<File = fs::File> + Net + Clock>(
     rt: &R,
     bytes: &[u8],
     listen: &str,

@@ -7,3 +7,4 @@ pub mod Folding
 pub mod Moves
 pub mod Reading
 pub mod Knowing
+pub mod Manying

@@ -10,3 +10,5 @@ pub mod Showing
 pub mod Answers
 pub mod Reading
 pub mod Views
+pub mod Many
+pub mod Inside

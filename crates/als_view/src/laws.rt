@@ -1,4 +1,4 @@
-ghost use Rattle.std.specs.Prelude.{◌≡◌, ℕ, ◌≤◌, true, false, List, [], ◌∷◌, ◌++◌, length, take};
+ghost use Rattle.std.specs.Prelude.{◌≡◌, ℕ, ◌≤◌, true, false, List, [], ◌∷◌, ◌++◌, length, take, map};
 ghost use Rattle.std.specs.Prelude.{Option, Some};
 ghost use Rattle.std.specs.List.{AllByRecursion};
 ghost use Rattle.als_record.specs.declared.key.Key.{Key};
@@ -10,6 +10,8 @@ ghost use Rattle.als_commits.specs.Counting.{IsEnded, ended_count};
 ghost use Rattle.als_view.specs.declared.answer.Answer.{Answer};
 ghost use Rattle.als_view.specs.Answers.{Answers, IsAnswer};
 ghost use Rattle.als_view.specs.Entries.{AreCommits, Begins};
+ghost use Rattle.als_view.specs.Many.{image_at, one_of, IsAnswerOfAll};
+ghost use Rattle.als_view.specs.declared.many.Many.{Many};
 ghost use Rattle.als_view.specs.Reading.{ReadsFront};
 ghost use Rattle.als_view.specs.Showing.{View as AnyView, IsShowing};
 ghost use Rattle.als_view.specs.Views.{listed_in};
@@ -62,4 +64,14 @@ pub fn shown_commits_may_be_published()
     ensures few { (log : List AnyRecord) (acknowledged : ℕ) (view : AnyView)
         → IsShowing log acknowledged view
         → length (listed_in view.published) ≤ ended_count acknowledged (commits_of log) }
+{}
+
+/// A law: an answer of many keys has one list of commits, and each of its images is the value that a
+/// read of that key alone would be answered of this list, with the same number and LSN. So each law of
+/// one answer is one of each of them, over the same list.
+pub fn many_are_of_one_list()
+    ensures { (pages : ℕ) (keys : List Key) (known : Option (List AnyCommit)) (a : Many)
+        → IsAnswerOfAll pages keys known a → (front : List AnyCommit) × (known ≡ Some front)
+        × (a.images.items ≡ map (image_at pages front) keys)
+        × ((key : Key) → IsAnswer pages key known (one_of a (image_at pages front key))) }
 {}

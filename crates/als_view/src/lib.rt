@@ -14,12 +14,16 @@ mod front;
 mod history;
 // The keys' images.
 mod images;
+// A reader inside a copy.
+mod inside;
 // What holds of every answer.
 mod laws;
 // A look into a copy.
 mod looking;
 // How a view begins.
 mod opening;
+// The images of many keys.
+mod many;
 // A commit of the published list.
 mod past_commit;
 // What a value was.
@@ -30,6 +34,8 @@ mod publisher;
 mod reader;
 // A read of what is published now.
 mod reading_now;
+// A read of many keys.
+mod reading_many;
 // The rule of the two copies.
 mod rule;
 // What the two copies have in common.
@@ -46,15 +52,17 @@ pub use change::Change;
 pub use fault::Fault;
 pub use front::Front;
 pub use history::{Law, Token};
+pub use inside::Inside;
 pub use laws::{
-    a_view_goes_on, an_answer_is_of_a_front, shown_commits_may_be_published,
+    a_view_goes_on, an_answer_is_of_a_front, many_are_of_one_list, shown_commits_may_be_published,
     what_is_known_is_published,
 };
+pub use many::Many;
 pub use opening::new;
 pub use publisher::Publisher;
 pub use reader::Reader;
 pub use reading_now::read_now;
-pub use rule::{CopyReader, CopyWriter, Known, Published};
+pub use rule::{CopyReader, CopyReading, CopyWriter, Known, Published};
 pub use state::{Marked, State};
 pub use view::View;
 pub use view_copy::ViewCopy;

@@ -1,5 +1,5 @@
 // A look into a copy: what a reader sees there, and what it knows afterwards.
-ghost use Rattle.std.specs.Prelude.{◌≡◌, ℕ, Some, IfOk, IfErr, OnErr};
+ghost use Rattle.std.specs.Prelude.{◌≡◌, ℕ, Some, IfOk, IfErr, OnOk, OnErr};
 ghost use Rattle.left_right.specs.Sides.{view};
 ghost use Rattle.als_view.specs.Entries.{Begins};
 ghost use Rattle.als_view.specs.Fronts.{front_of};
@@ -14,16 +14,16 @@ use crate::view_copy::ViewCopy;
 use als_record::Key;
 
 impl Front {
-    /// Takes in what a copy shows, and answers by it. At a fault nothing has changed.
+    /// Takes in what a copy shows. At a fault nothing has changed.
     ///
     /// Warming: the copy has no list, and no list was seen. Stopped: the copy shows less than was
     /// seen.
-    fn look(&mut self, copy: &ViewCopy, key: Key) -> Result<Answer, Fault>
+    pub(crate) fn see(&mut self, copy: &ViewCopy) -> Result<(), Fault>
         requires book { copy.now.seen.book ≡ self.old.seen.book }
         requires sound { IsSound copy.now }
         ensures book { self.new.seen.book ≡ self.old.seen.book }
         ensures later { Begins (front_of self.old) (front_of self.new) }
-        ensures answer { IfOk result (λ a. IsAnswer copy.now.pages key (front_of self.new) a) }
+        ensures shown { OnOk result (front_of self.new ≡ Some copy.now.list.items) }
         ensures refusal { IfErr result (λ e. IsRefusal (front_of self.old) e) }
         ensures err { OnErr result (front_of self.new ≡ front_of self.old) }
     {
@@ -44,6 +44,20 @@ impl Front {
             count: copy.count(),
             seen: copy.seen().again(),
         };
+        Ok(())
+    }
+
+    /// Takes in what a copy shows, and answers by it. At a fault nothing has changed.
+    fn look(&mut self, copy: &ViewCopy, key: Key) -> Result<Answer, Fault>
+        requires book { copy.now.seen.book ≡ self.old.seen.book }
+        requires sound { IsSound copy.now }
+        ensures book { self.new.seen.book ≡ self.old.seen.book }
+        ensures later { Begins (front_of self.old) (front_of self.new) }
+        ensures answer { IfOk result (λ a. IsAnswer copy.now.pages key (front_of self.new) a) }
+        ensures refusal { IfErr result (λ e. IsRefusal (front_of self.old) e) }
+        ensures err { OnErr result (front_of self.new ≡ front_of self.old) }
+    {
+        self.see(copy)?;
         Ok(Answer {
             value: copy.value(key),
             commits: copy.count(),

@@ -1,16 +1,21 @@
-ghost use Rattle.std.specs.Prelude.{◌≡◌, ◌⊎◌, true, false, Some, IfOk, IfErr, OnErr};
+ghost use Rattle.std.specs.Prelude.{◌≡◌, ◌⊎◌, ◌≤◌, true, false, [], length, vec_capacity, Some, IfOk};
+ghost use Rattle.std.specs.Prelude.{IfErr, OnErr};
 ghost use Rattle.left_right.specs.Sides.{view};
 ghost use Rattle.als_view.specs.Entries.{Begins};
 ghost use Rattle.als_view.specs.Fronts.{front_of};
 ghost use Rattle.als_view.specs.Rules.{book_in, pages_in};
 ghost use Rattle.als_view.specs.Answers.{IsAnswer, IsRefusal};
+ghost use Rattle.als_view.specs.Many.{is_key, IsAnswerOfAll};
 
 use crate::answer::Answer;
 use crate::fault::Fault;
 use crate::front::Front;
+use crate::inside::Inside;
 use crate::looking::read;
+use crate::many::Many;
+use crate::reading_many::read_many;
 use crate::rule::CopyReader;
-use als_record::Key;
+use als_record::{KeptImage, Key, SLOT_COUNT};
 use core::mem::replace_with;
 
 /// A reader of a view, for one thread at a time. What it saw and was told is its front: no later
@@ -38,6 +43,7 @@ impl Drop for Reader {
 
 impl Reader {
     ghost use Rattle.als_view.specs.Views.{book_of, pages_of, known_to, IsSameReader};
+    ghost use Rattle.als_view.specs.Inside.{book_at, pages_at, front_at};
 
     /// A reader over a reader of the copies, which knows this front.
     pub(crate) fn of(inner: CopyReader, front: Front, pages: u32) -> Reader
@@ -102,5 +108,63 @@ impl Reader {
         });
         *front = next;
         answer
+    }
+
+    /// The images of keys after the commits that are then seen: all of one front, which begins with all
+    /// that this reader saw before or was told. It enters a copy once, whatever is published meanwhile, and
+    /// its work is one look-up a key. It waits for nobody, takes no lock and no memory: `room` has room for
+    /// the images.
+    ///
+    /// Warming: there is no list of commits yet, and none was seen or told. Stopped: the view has
+    /// ended.
+    pub fn get_many(&mut self, keys: &[Key], room: Vec<KeptImage>) -> Result<Many, Fault>
+        requires empty { room.items ≡ [] }
+        requires room { length keys.now ≤ vec_capacity room }
+        ensures same { IsSameReader self.old self.new }
+        ensures later { Begins (known_to self.old) (known_to self.new) }
+        ensures answer { IfOk result
+            (λ a. IsAnswerOfAll (pages_of self.old) keys.now (known_to self.new) a) }
+        ensures refusal { IfErr result (λ e. IsRefusal (known_to self.old) e) }
+        ensures err { OnErr result (known_to self.new ≡ known_to self.old) }
+    {
+        replace_with(self, (keys, room), |reader, x| {
+            let (keys, room) = x;
+            read_many(reader, keys, room)
+        })
+    }
+
+    /// Enters a copy: all that is looked up there is of one front, which begins with all that this reader
+    /// saw before or was told. It waits for nobody, takes no lock and no memory.
+    ///
+    /// Warming: there is no list of commits yet, and none was seen or told. Stopped: the view has
+    /// ended. The reader comes back, and knows what it knew.
+    pub fn enter(self) -> Result<Inside, (Reader, Fault)>
+        ensures same { IfOk result
+            (λ i. (book_at i ≡ book_of self) × (pages_at i ≡ pages_of self)) }
+        ensures later { IfOk result (λ i. Begins (known_to self) (Some (front_at i))) }
+        ensures back { IfErr result
+            (λ e. IsSameReader self e.0 × (known_to e.0 ≡ known_to self)) }
+        ensures refusal { IfErr result (λ e. IsRefusal (known_to self) e.1) }
+    {
+        let Reader {
+            inner,
+            front,
+            pages,
+        } = self;
+        Inside::enter(inner, front, pages)
+    }
+
+    /// Whether the database has the key.
+    pub fn has(&self, key: Key) -> bool
+        ensures { result ≡ is_key (pages_of self.now) key }
+    {
+        key.page < self.pages && (key.slot as usize) < SLOT_COUNT
+    }
+
+    /// How many pages the database has.
+    pub fn pages(&self) -> u32
+        ensures { result ≡ pages_of self.now }
+    {
+        self.pages
     }
 }

@@ -4,7 +4,7 @@ use crate::history::Token;
 use crate::view_copy::ViewCopy;
 use atomic_table::{Join, Split};
 use crossbeam_utils::rule::{Outcome, Protocol};
-use left_right::reader::Reader;
+use left_right::reader::{Reader, Reading};
 use left_right::writer::Writer;
 
 /// What a thread knows. No value of it is made.
@@ -53,6 +53,9 @@ impl Join<Option<Known>> for Notes {
 
 /// A reader of the two copies.
 pub type CopyReader = Reader<ViewCopy, Option<Known>, Published>;
+
+/// A reader that is in one of the two copies.
+pub type CopyReading = Reading<ViewCopy, Option<Known>, Published>;
 
 /// The writer of the two copies.
 pub type CopyWriter = Writer<ViewCopy, Change, Option<Known>, Published>;

@@ -3,6 +3,7 @@ ghost use Rattle.std.specs.Prelude.{vec_capacity, None, IfOk, if◌then◌else�
 ghost use Rattle.als_record.specs.Commits.{seen_after};
 ghost use Rattle.als_commits.specs.Counting.{last_of};
 ghost use Rattle.als_view.specs.Images.{AreImagesAfter};
+ghost use Rattle.als_view.specs.Many.{image_at};
 
 use crate::change::Change;
 use crate::history::Token;
@@ -106,6 +107,16 @@ impl ViewCopy {
             return None;
         }
         self.images[place(key)].image()
+    }
+
+    /// The same, as it is stored.
+    pub(crate) fn kept(&self, key: Key) -> KeptImage
+        ensures { result ≡ image_at self.now.pages self.now.list.items key }
+    {
+        if key.page >= self.pages || key.slot as usize >= SLOT_COUNT {
+            return KeptImage::absent();
+        }
+        self.images[place(key)]
     }
 
     /// The LSN of the last commit.

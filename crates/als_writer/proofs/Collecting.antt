@@ -1,19 +1,20 @@
 -- The asks that are not met: as they are collected, and what is known of them and of the others.
 use Rattle.std.proofs.Common.{◌≡◌, ℕ, suc, zero, ◌+◌, ◌==◌, ◌<◌, ◌≤◌, ltb, leb, Bool, true, false, not, ◌&&◌, cond, List, [], ◌∷◌, ◌++◌, length, get_or, map, filter, take, refl, sym, ap, subst, ◌∙◌, append-nil, arith}
 use Rattle.std.specs.Prelude.{All, Contains}
-use Rattle.std.proofs.lemmas.Bool.{and_parts, leb-true, eqb-true, not-true, not-false, not_from_true, not_from_false}
+use Rattle.std.proofs.lemmas.Bool.{and_parts, ltb-true, leb-true, eqb-true, not-true, not-false, not_from_true, not_from_false}
 use Rattle.std.proofs.lemmas.List.{map_push, nil_from_length}
 use Rattle.std.proofs.lemmas.List.Elements.{filter_more, filter_passes, All-nil, All-cons, All-filter, All-contains, All-contains_itself, All-map, All-take}
 use Rattle.als_record.specs.declared.key.Key.{Key}
 use Rattle.als_record.specs.declared.record.Record.{Record}
 use Rattle.als_record.specs.Spelling.{Image, IsKey}
+use Rattle.als_record.specs.LogText.{end_of}
 use Rattle.als_record.specs.Images.{same_image, image_now}
 use Rattle.als_record.proofs.Standing.{same_image-true, same_image-refl}
 use Rattle.als_writing.specs.Writing.{last_write}
 use Rattle.als_writer.specs.declared.ask.Ask.{Ask}
 use Rattle.als_writer.specs.declared.ask.Ask.TheVariants.{Is, Unchanged}
 use Rattle.als_writer.specs.declared.unmet.Unmet.{Unmet}
-use Rattle.als_writer.specs.Changes.{AreBounds, place_of}
+use Rattle.als_writer.specs.Changes.{AreBounds, place_of, is_below}
 use Rattle.als_writer.specs.Checking.{key_asked, AreAskedIn}
 use Rattle.als_writer.specs.Asking.{IsAsked, IsFailed, IsUnmet, AreUnmet, AreFailing, is_met, unmet_of, unmet_by, with_next}
 
@@ -49,10 +50,11 @@ met_asked : (bounds : List ℕ) (pages : ℕ) (log : List Record) (ask : Ask) �
 met_asked bounds pages log (Is key image) are is e = sym (same_image-true image (image_now log key) e)
 met_asked bounds pages log (Unchanged key since) are is e =
     let kept : ℕ = get_or bounds (place_of key) 0 in
-    let p : (ltb (place_of key) (length bounds) ≡ true) × (leb kept since.0 ≡ true) = and_parts (ltb (place_of key) (length bounds)) (leb kept since.0) e in
+    let q : (ltb since.0 (end_of log) ≡ true) × (is_below bounds key since ≡ true) = and_parts (ltb since.0 (end_of log)) (is_below bounds key since) e in
+    let p : (ltb (place_of key) (length bounds) ≡ true) × (leb kept since.0 ≡ true) = and_parts (ltb (place_of key) (length bounds)) (leb kept since.0) q.1 in
     let below : kept ≤ since.0 = leb-true kept since.0 p.1 in
     let bound : last_write log key ≤ kept = are.each key 0 is.page is.slot in
-    omega (arith, below, bound)
+    (ltb-true since.0 (end_of log) q.0, omega (arith, below, bound))
 
 unmet_failed : (bounds : List ℕ) (log : List Record) (ask : Ask) → is_met bounds log ask ≡ false → IsFailed log ask
 unmet_failed bounds log (Is key image) e = λ same. absurd (cc (sym e ∙ ap (same_image image) same ∙ same_image-refl image))

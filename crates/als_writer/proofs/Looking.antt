@@ -26,7 +26,7 @@ use Rattle.als_writer.specs.declared.ask.Ask.{Ask}
 use Rattle.als_writer.specs.declared.unmet.Unmet.{Unmet}
 use Rattle.als_writer.specs.Asking.{IsHeldBy, IsFreeNow}
 use Rattle.als_writer.specs.Committing.{FeedRefused}
-use Rattle.als_writer.specs.Refused.{KeyRefused, LookRefused, TidyRefused, StartRefused, PlanRefused, ShowsFailing}
+use Rattle.als_writer.specs.Refused.{KeyRefused, LookRefused, TidyRefused, StartRefused, PlanRefused, ShowsFailing, ShowsUnmet}
 
 -- ---- a key that nobody holds is free
 
@@ -142,3 +142,29 @@ start_shown extra m ws log asks r k = other_shown log asks r (λ failing e. subs
 
 pub fed_shown : (old : Machine) (t : Transaction) (new : Machine) (log : List Record) (asks : List Ask) (r : Refusal) → FeedRefused old t r new → ShowsFailing log asks r
 fed_shown old t new log asks r k = other_shown log asks r (λ failing e. subst (λ (q : Refusal). FeedRefused old t q new) e k)
+
+-- ---- nor one that bounds do not meet
+
+other_unmet : (bounds : List ℕ) (log : List Record) (asks : List Ask) (r : Refusal) → ((failing : List Unmet) → r ≡ NotAsAsked failing → ⊥) → ShowsUnmet bounds log asks r
+other_unmet bounds log asks (NotAsAsked failing) other = absurd (other failing refl)
+other_unmet bounds log asks (Invalid flaw) other = tt
+other_unmet bounds log asks (State f) other = tt
+other_unmet bounds log asks Untidy other = tt
+other_unmet bounds log asks (Held key by) other = tt
+other_unmet bounds log asks NumbersSpent other = tt
+other_unmet bounds log asks TooMany other = tt
+other_unmet bounds log asks LogFull other = tt
+other_unmet bounds log asks (Memory owed) other = tt
+other_unmet bounds log asks (Unplanned f) other = tt
+
+pub look_unmet : (m : Machine) (bounds : List ℕ) (log : List Record) (asks : List Ask) (r : Refusal) → LookRefused m r → ShowsUnmet bounds log asks r
+look_unmet m bounds log asks r k = other_unmet bounds log asks r (λ failing e. subst (LookRefused m) e k)
+
+pub tidy_unmet : (m : Machine) (bounds : List ℕ) (log : List Record) (asks : List Ask) (r : Refusal) → TidyRefused m r → ShowsUnmet bounds log asks r
+tidy_unmet m bounds log asks r k = other_unmet bounds log asks r (λ failing e. subst (TidyRefused m) e k)
+
+pub start_unmet : (extra : ℕ) (m : Machine) (ws : List Write) (bounds : List ℕ) (log : List Record) (asks : List Ask) (r : Refusal) → StartRefused extra m ws r → ShowsUnmet bounds log asks r
+start_unmet extra m ws bounds log asks r k = other_unmet bounds log asks r (λ failing e. subst (StartRefused extra m ws) e k)
+
+pub fed_unmet : (old : Machine) (t : Transaction) (new : Machine) (bounds : List ℕ) (log : List Record) (asks : List Ask) (r : Refusal) → FeedRefused old t r new → ShowsUnmet bounds log asks r
+fed_unmet old t new bounds log asks r k = other_unmet bounds log asks r (λ failing e. subst (λ (q : Refusal). FeedRefused old t q new) e k)

@@ -1,10 +1,12 @@
 -- What a transaction asks of the log, and what is known of a key that is free.
-use Rattle.std.specs.Prelude.{◌≡◌, ℕ, ◌<◌, ◌≤◌, Bool, true, false, not, List, [], ◌∷◌, ◌++◌, length, map, filter, take, Some, None, All, Contains, if◌then◌else◌}
+use Rattle.std.specs.Prelude.{◌≡◌, ℕ, ◌<◌, ◌≤◌, nat_lt, Bool, true, false, not, ◌&&◌, List, [], ◌∷◌, ◌++◌, length, map, filter, take, Some, None, All, Contains, if◌then◌else◌}
 use Rattle.als_record.specs.declared.key.Key.{Key}
+use Rattle.als_record.specs.declared.lsn.Lsn.{Lsn}
 use Rattle.als_record.specs.declared.trans_id.TransId.{TransId}
 use Rattle.als_record.specs.declared.record.Body.TheVariants.{Update}
 use Rattle.als_record.specs.declared.record.Record.{Record}
 use Rattle.als_record.specs.Spelling.{Image, IsKey}
+use Rattle.als_record.specs.LogText.{end_of}
 use Rattle.als_record.specs.Transactions.{has_begun}
 use Rattle.als_record.specs.Images.{image_now, same_image}
 use Rattle.als_record.specs.Validity.{held_by}
@@ -19,10 +21,10 @@ use Rattle.als_writer.specs.Changes.{is_below}
 use Rattle.als_writer.specs.Checking.{key_asked}
 use Rattle.als_writer.specs.Placing.{AreBefores}
 
--- an ask holds of a log
+-- an ask holds of a log: an LSN at or past its end is none of it
 abbrev pub IsAsked : List Record → Ask → Type 0
 IsAsked log (Is key image) = image_now log key ≡ image
-IsAsked log (Unchanged key since) = last_write log key ≤ since.0
+IsAsked log (Unchanged key since) = (since.0 < end_of log) × (last_write log key ≤ since.0)
 
 -- another transaction holds the key against any one that has no record yet
 abbrev pub IsHeldBy : List Record → Key → TransId → Type 0
@@ -70,10 +72,14 @@ pub record AreFailing (log : List Record) (asks : List Ask) (failing : List Unme
   pub asked : (ask : Ask) → Contains asks ask → fails ask ≡ false → IsAsked log ask
   pub first : failing ≡ take 8 (map (unmet_of log) (filter fails asks))
 
+-- whether an LSN is below the log's end, and at or above the bound of a key's last commit
+abbrev pub is_since : List ℕ → List Record → Key → Lsn → Bool
+is_since bounds log key since = nat_lt since.0 (end_of log) && is_below bounds key since
+
 -- whether an ask is met, by these bounds of the last commits
 abbrev pub is_met : List ℕ → List Record → Ask → Bool
 is_met bounds log (Is key image) = same_image image (image_now log key)
-is_met bounds log (Unchanged key since) = is_below bounds key since
+is_met bounds log (Unchanged key since) = is_since bounds log key since
 
 -- what is shown of those that are not met by them
 abbrev pub unmet_by : List ℕ → List Record → List Ask → List Unmet

@@ -1,5 +1,5 @@
 -- Why a transaction is refused before anything is fed.
-use Rattle.std.specs.Prelude.{◌≡◌, ℕ, ◌+◌, ◌*◌, ◌<◌, ◌≤◌, ◌^◌, ◌⊎◌, false, List, [], length, Some}
+use Rattle.std.specs.Prelude.{◌≡◌, ℕ, ◌+◌, ◌*◌, ◌<◌, ◌≤◌, ◌^◌, ◌⊎◌, false, List, [], length, take, Some}
 use Rattle.als_record.specs.declared.key.Key.{Key}
 use Rattle.als_record.specs.declared.record.Record.{Record}
 use Rattle.als_record.specs.Spelling.{IsKey}
@@ -17,7 +17,7 @@ use Rattle.als_writer.specs.declared.refusal.Refusal.{Refusal}
 use Rattle.als_writer.specs.declared.refusal.Refusal.TheVariants.{Invalid, State, Untidy, Held, NotAsAsked, NumbersSpent, TooMany, LogFull, Memory, Unplanned}
 use Rattle.als_writer.specs.declared.transaction.Transaction.{Transaction}
 use Rattle.als_writer.specs.Checking.{IsFlaw}
-use Rattle.als_writer.specs.Asking.{IsHeldBy, AreUnmet, AreFailing}
+use Rattle.als_writer.specs.Asking.{IsHeldBy, AreUnmet, AreFailing, unmet_by}
 
 -- a key is not looked at: the engine takes nothing, the database has no such key, or another transaction holds it
 abbrev pub KeyRefused : Machine → Key → Refusal → Type 0
@@ -66,6 +66,11 @@ PlanRefusedBeside extra m t refusal = PlanRefused m t refusal
 abbrev pub ShowsFailing : List Record → List Ask → Refusal → Type 0
 ShowsFailing log asks (NotAsAsked failing) = AreFailing log asks failing
 ShowsFailing log asks _ = Unit {0}
+
+-- a refusal that shows asks shows the first eight that are not met by these bounds of the last commits
+abbrev pub ShowsUnmet : List ℕ → List Record → List Ask → Refusal → Type 0
+ShowsUnmet bounds log asks (NotAsAsked failing) = failing ≡ take 8 (unmet_by bounds log asks)
+ShowsUnmet bounds log asks _ = Unit {0}
 
 -- records are owed or wait, or the log was sealed
 abbrev pub TidyRefused : Machine → Refusal → Type 0

@@ -5,6 +5,6 @@ use als_record::{KeptImage, Key, Lsn};
 pub enum Ask {
     /// The key has this image.
     Is { key: Key, image: KeptImage },
-    /// No commit above this LSN wrote the key.
+    /// This LSN is below the log's end, and no commit above it wrote the key.
     Unchanged { key: Key, since: Lsn },
 }

@@ -1,9 +1,9 @@
-ghost use Rattle.std.specs.Prelude.{◌≡◌, List, length, All, take, IfOk, IfErr};
-ghost use Rattle.als_record.specs.declared.record.Record.{Record as AnyRecord};
+ghost use Rattle.std.specs.Prelude.{◌≡◌, length, All, take, nat_lt, IfOk, IfErr};
 ghost use Rattle.als_record.specs.Spelling.{IsKey};
+ghost use Rattle.als_record.specs.LogText.{end_of};
 ghost use Rattle.als_record.specs.Images.{image_now};
 ghost use Rattle.als_writer.specs.Checking.{key_asked, AreAskedIn};
-ghost use Rattle.als_writer.specs.Asking.{IsFreeNow, AreFreeNow, is_met, unmet_by, with_next};
+ghost use Rattle.als_writer.specs.Asking.{IsFreeNow, AreFreeNow, is_met, is_since, unmet_by, with_next};
 ghost use Rattle.als_writer.specs.Refused.{KeyRefused, LookRefused};
 
 use crate::ask::Ask;
@@ -14,7 +14,7 @@ use crate::refusal::Refusal;
 use crate::set::Set;
 use crate::unmet::Unmet;
 use als_engine::Writes;
-use als_record::{KeptImage, Key};
+use als_record::{KeptImage, Key, Lsn};
 use std::alloc::Global;
 
 /// What a key has, where no other open transaction holds it.
@@ -32,15 +32,32 @@ fn look<E: Writes>(engine: &E, key: Key) -> Result<KeptImage, Refusal>
     }
 }
 
-/// Whether an ask holds, where its key has this image. `false` of a key that is to be unchanged where
-/// that is not known.
-fn holds(changes: &Changes, ask: &Ask, now: &KeptImage) -> bool
-    ensures { (log : List AnyRecord) → now.now ≡ image_now log (key_asked ask.now)
-        → result ≡ is_met changes.now log ask.now }
+/// Whether an LSN is below the log's end.
+fn is_in_log<E: Writes>(engine: &E, lsn: Lsn) -> bool
+    ensures { E.alone → result ≡ nat_lt lsn.0 (end_of (E.machine engine.now).held.log) }
+{
+    lsn.0 < engine.status().end.0
+}
+
+/// Whether an LSN is below the log's end, and no commit above it wrote the key. `false` where that is
+/// not known.
+fn is_unchanged<E: Writes>(engine: &E, changes: &Changes, key: Key, since: Lsn) -> bool
+    ensures { E.alone
+        → result ≡ is_since changes.now (E.machine engine.now).held.log key since }
+{
+    let within = is_in_log(engine, since);
+    let unchanged = changes.is_unchanged(key, since);
+    within && unchanged
+}
+
+/// Whether an ask holds, where its key has this image.
+fn holds<E: Writes>(engine: &E, changes: &Changes, ask: &Ask, now: &KeptImage) -> bool
+    ensures { E.alone → now.now ≡ image_now (E.machine engine.now).held.log (key_asked ask.now)
+        → result ≡ is_met changes.now (E.machine engine.now).held.log ask.now }
 {
     match ask {
         Ask::Is { image, .. } => now.is(&image.shown()),
-        Ask::Unchanged { key, since } => changes.is_unchanged(*key, *since),
+        Ask::Unchanged { key, since } => is_unchanged(engine, changes, *key, *since),
     }
 }
 
@@ -60,7 +77,7 @@ pub(crate) fn failing_of<E: Writes>(
     for ask in asks {
         let key = asked(ask);
         let now = look(engine, key)?;
-        let met = holds(changes, ask, &now);
+        let met = holds(engine, changes, ask, &now);
         show_next(&mut failing, met, Unmet { key, image: now });
     }
     Ok(failing)

@@ -6,7 +6,7 @@ ghost use Rattle.als_writer.specs.Checking.{AreApart};
 ghost use Rattle.als_writer.specs.Placing.{AreBefores};
 ghost use Rattle.als_writer.specs.Planning.{IsTidy, IsStart, IsPlan};
 ghost use Rattle.als_writer.specs.Closing.{extra_of};
-ghost use Rattle.als_writer.specs.Refused.{TidyRefused, StartRefused, PlanRefusedBeside, ShowsFailing};
+ghost use Rattle.als_writer.specs.Refused.{TidyRefused, StartRefused, PlanRefusedBeside, ShowsFailing, ShowsUnmet};
 
 use crate::asking::{befores_of, failing_of};
 use crate::changes::Changes;
@@ -103,6 +103,8 @@ pub(crate) fn make_plan<E: Writes>(
     ensures shown { IfErr result (λ r. E.alone
         → AreBounds changes.now (E.machine engine.now).held.pages (E.machine engine.now).held.log
         → ShowsFailing (E.machine engine.now).held.log transaction.now.asks.items r) }
+    ensures unmet { IfErr result (λ r. E.alone → ShowsUnmet changes.now
+        (E.machine engine.now).held.log transaction.now.asks.items r) }
 {
     if let Some(flaw) = find_flaw(transaction, engine.pages()) {
         return Err(Refusal::Invalid(flaw));

@@ -2,7 +2,7 @@ ghost use Rattle.std.specs.Prelude.{◌≡◌, IfOk, IfErr};
 ghost use Rattle.als_engine.specs.Machine.{Keeps};
 ghost use Rattle.als_writer.specs.Changes.{AreBounds};
 ghost use Rattle.als_writer.specs.Preparing.{Prepares, NotPrepared};
-ghost use Rattle.als_writer.specs.Refused.{ShowsFailing};
+ghost use Rattle.als_writer.specs.Refused.{ShowsFailing, ShowsUnmet};
 
 use crate::changes::Changes;
 use crate::closing::Closing;
@@ -38,6 +38,10 @@ pub fn prepare<E: Writes>(
     ensures shown { IfErr result (λ r. E.alone
         → AreBounds changes.now (E.machine engine.old).held.pages (E.machine engine.old).held.log
         → ShowsFailing (E.machine engine.old).held.log transaction.now.asks.items r) }
+    // They are the first eight that the bounds of the last commits do not meet: of those for a key that
+    // is to be unchanged, each whose LSN is at or past the log's end, or below the key's bound.
+    ensures unmet { IfErr result (λ r. E.alone → ShowsUnmet changes.now
+        (E.machine engine.old).held.log transaction.now.asks.items r) }
     // What bounds the last commits still does.
     ensures bounds { E.alone
         → AreBounds changes.now (E.machine engine.old).held.pages (E.machine engine.old).held.log

@@ -6,7 +6,7 @@ ghost use Rattle.als_writer.specs.declared.closing.Closing.TheVariants as closin
 ghost use Rattle.als_writer.specs.Planning.{IsPlan};
 ghost use Rattle.als_writer.specs.Committing.{Commits, NotWritten, IsInLog, FeedRefused};
 ghost use Rattle.als_writer.specs.Preparing.{IsPrepared};
-ghost use Rattle.als_writer.specs.Refused.{ShowsFailing};
+ghost use Rattle.als_writer.specs.Refused.{ShowsFailing, ShowsUnmet};
 
 use crate::changes::Changes;
 use crate::closing::Closing;
@@ -41,6 +41,10 @@ pub fn write<E: Writes>(
     ensures shown { IfErr result (λ r. E.alone
         → AreBounds changes.old (E.machine engine.old).held.pages (E.machine engine.old).held.log
         → ShowsFailing (E.machine engine.old).held.log transaction.now.asks.items r) }
+    // They are the first eight that the bounds of the last commits do not meet: of those for a key that
+    // is to be unchanged, each whose LSN is at or past the log's end, or below the key's bound.
+    ensures unmet { IfErr result (λ r. E.alone → ShowsUnmet changes.old
+        (E.machine engine.old).held.log transaction.now.asks.items r) }
     ensures bounds { E.alone
         → AreBounds changes.old (E.machine engine.old).held.pages (E.machine engine.old).held.log
         → AreBounds changes.new (E.machine engine.new).held.pages (E.machine engine.new).held.log }

@@ -1,8 +1,9 @@
 use Rattle.std.proofs.Common.{refl, ◌∙◌}
 use Rattle.als_lead.specs.Confirming.{IsConfirmedOf, IsCarriedOut, IsExcusedOf}
-use Rattle.als_lead.proofs.Rounds.{leads_none, leads_both}
+use Rattle.als_lead.proofs.Rounds.{leads_none, leads_both, fresh_on}
 use Rattle.als_lead.proofs.Confirms.{told_none, told_confirmed_both, told_works_both, shown_refl, shown_both}
 use Rattle.als_lead.proofs.Excuses.{told_excused_both}
+use Rattle.als_lead.proofs.Owing.{owes_on}
 use Rattle.als_lead.proofs.leading.lead.Goals as goal
 
 pub loop-init : goal.loop-init
@@ -12,6 +13,8 @@ loop-init g c = record {
   works = told_none (IsCarriedOut (g.U.Upkeep.missed c.args.upkeep.now)) (g.C.Clients.told c.args.clients.now) (g.C.Clients.told c.args.clients.now) refl;
   known = λ a. told_none (IsExcusedOf (g.U.Upkeep.missed c.args.upkeep.now) g.E.Events.machine (g.E.Events.machine c.args.engine.now)) (g.C.Clients.told c.args.clients.now) (g.C.Clients.told c.args.clients.now) refl;
   shown = λ a. shown_refl (g.U.Upkeep.confirmed c.args.upkeep.now) (g.E.Events.machine c.args.engine.now);
+  fresh = c.requires.fresh;
+  owed = c.requires.owed;
   empty = c.in_ok-queue.ensures.items;
   bounds = c.in_ok-changes.ensures.bounds;
   book = refl;
@@ -33,6 +36,10 @@ loop-preserved g c = record {
       (c.round.ensures.leads.grows a) c.round.ensures.misses (c.loop.invariant.known a) (c.in_ok-goes_on.ensures.known a);
   shown = λ a. shown_both (g.U.Upkeep.confirmed c.loop.upkeep) (g.U.Upkeep.confirmed c.round.new.upkeep) (g.E.Events.machine c.args.engine.now) (g.E.Events.machine c.loop.engine) (g.E.Events.machine c.round.new.engine)
       (c.round.ensures.leads.commits a).added (c.round.ensures.leads.commits a).commits c.round.ensures.keeps (c.loop.invariant.shown a) (c.round.ensures.shown a);
+  fresh = fresh_on g.E.Events.alone (g.E.Events.machine c.loop.engine) (g.E.Events.machine c.round.new.engine) (g.C.Clients.taken c.loop.clients) (g.C.Clients.taken c.round.new.clients)
+      (g.C.Clients.told c.loop.clients) (g.C.Clients.told c.round.new.clients) c.loop.invariant.fresh c.round.ensures.leads;
+  owed = owes_on g.E.Events.alone g.E.Events.machine g.U.Upkeep.confirmed g.U.Upkeep.missed g.U.Upkeep.alike g.U.Upkeep.failed c.loop.engine c.round.new.engine c.loop.upkeep c.round.new.upkeep
+      g.C.Clients.may_tell c.loop.invariant.owed c.round.ensures.leads.grows c.round.ensures.keeps c.round.ensures.misses c.round.ensures.alike;
   empty = c.round.ensures.emptied;
   bounds = c.round.ensures.bounds;
   book = c.round.ensures.book ∙ c.loop.invariant.book;

@@ -1,4 +1,4 @@
-use Rattle.std.proofs.Common.{ℕ, List, refl}
+use Rattle.std.proofs.Common.{rules, ℕ, List, refl, sym, ap, ◌∙◌}
 use Rattle.als_engine.specs.Machine.{Machine}
 use Rattle.als_lead.specs.declared.told.Told.{Told}
 use Rattle.als_lead.specs.Leading.{Leads, AllTold}
@@ -6,7 +6,20 @@ use Rattle.als_lead.specs.Confirming.{IsShown, IsConfirmedOf, IsCarriedOut, IsEx
 use Rattle.als_lead.proofs.Rounds.{leads_same, leads_waited, leads_both, leads_rest}
 use Rattle.als_lead.proofs.Confirms.{on_ok_any, told_from, told_confirmed_on, told_works_on, shown_both, shown_stays}
 use Rattle.als_lead.proofs.Excuses.{told_excused_on}
+use Rattle.als_lead.specs.Answers.{asked_of}
+use Rattle.als_lead.proofs.Going.{same_bounds}
+use Rattle.als_lead.proofs.Owing.{owes_on}
 use Rattle.als_lead.proofs.leading.round.Goals as goal
+
+pub serve-requires : goal.serve-requires
+serve-requires g c = record {
+  whole = search rules;
+  bounded = λ a. same_bounds (g.E.Events.machine c.args.engine.now) (g.E.Events.machine c.confirm_earlier.new.engine) c.args.changes.now (c.confirm_earlier.ensures.grows a) (c.confirm_earlier.ensures.same a) (c.requires.bounded a);
+  empty = c.requires.empty;
+  fresh = c.wait.ensures.taken ∙ c.requires.fresh ∙ ap (λ (l : List Told). asked_of l) (sym c.wait.ensures.told);
+  owed = owes_on g.E.Events.alone g.E.Events.machine g.U.Upkeep.confirmed g.U.Upkeep.missed g.U.Upkeep.alike g.U.Upkeep.failed c.args.engine.now c.confirm_earlier.new.engine c.args.upkeep.now c.confirm_earlier.new.upkeep
+      g.C.Clients.may_tell c.requires.owed c.confirm_earlier.ensures.grows c.confirm_earlier.ensures.keeps c.confirm_earlier.ensures.misses c.confirm_earlier.ensures.alike;
+}
 
 pub returns-in_err-serve-in-Asks-clause-leads : goal.returns-in_err-serve-in-Asks-clause-leads
 returns-in_err-serve-in-Asks-clause-leads g c =

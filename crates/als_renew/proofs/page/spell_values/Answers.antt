@@ -53,7 +53,7 @@ loop-slot-preserved c =
     let t : ℕ = c.args.place.now.trans.0 in
     let same : c.loop-slot.place.trans.0 ≡ t = ap (λ x. x.0) before.trans in
     let found : (held : List AnyRecord) → IsSeenOf c.args.seen.now c.args.seen.now.pages held → c.value-after.result ≡ value_in held (key_at page slot) =
-    λ held is. c.value-after.ensures c.args.seen.now.pages held is ∙ value-is held page c.args.seen.now.pages slot c.requires.page (omega (arith, c.loop-slot-test.true)) in
+    λ held is. c.value-after.ensures.seen c.args.seen.now.pages held is ∙ value-is held page c.args.seen.now.pages slot c.requires.page (omega (arith, c.loop-slot-test.true)) in
     record {
       so_far = λ held log is p nothing.
           let ws : List Write = page_writes (value_in held) page slot in

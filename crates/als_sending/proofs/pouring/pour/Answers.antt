@@ -1,17 +1,18 @@
-use Rattle.std.proofs.Common.{rules, arith, subst, ◌∙◌, ◌≡◌, ℕ}
+use Rattle.std.proofs.Common.{rules, arith, subst, sym, ◌∙◌, ◌≡◌, ℕ, List}
 use Rattle.std.proofs.lemmas.Result.{err_from_is_err_and}
-use Rattle.std.proofs.KnownBytes.{Keeps-refl, Keeps-trans}
-use Rattle.als_sending.specs.Going.{Closes}
+use Rattle.std.proofs.KnownBytes.{Keeps-trans}
+use Rattle.als_sending.specs.Going.{Closes, Goes}
 use Rattle.als_sending.proofs.Going.{goes_both, stops_both, stops_here, closes_both, fails_both}
 use Rattle.als_sending.proofs.pouring.pour.Goals as goal
 
 pub loop-init : goal.loop-init
 loop-init g c = record {
-  goes = c.in_ok-greet.ensures.goes (g.M.Marks.heard c.args.marks.now) (g.R.Read.remaining c.args.reader.now);
+  goes = subst (λ (heard : List ℕ). Goes c.args.way.now c.greet.new.way (g.G.Growing.reads c.args.log.now) (g.G.Growing.reads c.greet.new.log) (g.M.Marks.heard c.args.marks.now) heard (g.R.Read.remaining c.args.reader.now) (g.R.Read.remaining c.args.reader.now) (g.W.Write.contents c.args.writer.now) (g.W.Write.contents c.greet.new.writer))
+      (sym c.greet.ensures.heard) (c.in_ok-greet.ensures.goes (g.M.Marks.heard c.args.marks.now) (g.R.Read.remaining c.args.reader.now));
   is = c.greet.ensures.is;
   room = search (rules, arith);
   rises = omega (arith, c.greet.ensures.shown);
-  begun = Keeps-refl (g.M.Marks.begun c.args.marks.now);
+  begun = c.greet.ensures.begun;
   seals = c.greet.ensures.seals;
   pages = c.greet.ensures.pages;
 }

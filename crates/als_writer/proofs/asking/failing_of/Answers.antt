@@ -16,7 +16,7 @@ loop-ask-preserved g c = record {
       let key = c.asked-key.result in
       let is = (c.in_ok-now.ensures.now a).now in
       next_is c.args.changes.now log c.args.asks.now c.loop-ask.ask-index ask c.holds-met.result (record { key = key; image = now }) c.loop-ask.failing c.show_next.new.failing
-      c.loop-ask-test.true c.ask-item.is (c.holds-met.ensures log (now_asked log ask key now c.asked-key.ensures is)) (next_told log ask key now c.asked-key.ensures is)
+      c.loop-ask-test.true c.ask-item.is (c.holds-met.ensures a (now_asked log ask key now c.asked-key.ensures is)) (next_told log ask key now c.asked-key.ensures is)
       (c.loop-ask.invariant.first a) c.show_next.ensures;
 }
 

@@ -16,7 +16,7 @@ use Rattle.als_writer.specs.Asking.{AreFreeNow, unmet_by}
 use Rattle.als_writer.specs.Checking.{AreApart, AreAskedIn}
 use Rattle.als_writer.specs.Placing.{AreBefores}
 use Rattle.als_writer.specs.Planning.{IsStart}
-use Rattle.als_writer.proofs.Looking.{start_shown}
+use Rattle.als_writer.proofs.Looking.{start_shown, start_unmet}
 use Rattle.als_writer.proofs.Collecting.{none_shown, some_shown, all_asked, are_unmet, are_failing}
 use Rattle.als_writer.proofs.Fitting.{all_writes}
 use Rattle.als_writer.proofs.planning.make_plan.Goals as goal
@@ -48,6 +48,23 @@ returns-in-Ok-clause-asked g c a bounds =
     subst (λ (asks : List Ask). failing ≡ take 8 (unmet_by c.args.changes.now log asks)) c.deref.ensures.value (c.in_ok-failing.ensures.first a) in
     let keys : AreAskedIn m.held.pages c.args.transaction.now.asks.items = subst (λ (n : ℕ). AreAskedIn n c.args.transaction.now.asks.items) (c.pages.ensures.pages a) c.in_default.ensures.asked in
     all_asked c.args.changes.now m.held.pages log c.args.transaction.now.asks.items failing bounds keys first (none_shown failing (sym c.is_empty.ensures ∙ c.if-not-is_empty.false))
+
+pub returns-then-not-is_empty-clause-unmet : goal.returns-then-not-is_empty-clause-unmet
+returns-then-not-is_empty-clause-unmet g c a =
+    let log : List AnyRecord = (g.E.Events.machine c.args.engine.now).held.log in
+    let failing : List Unmet = c.in_ok-failing.failing in
+    subst (λ (asks : List Ask). failing ≡ take 8 (unmet_by c.args.changes.now log asks)) c.deref.ensures.value (c.in_ok-failing.ensures.first a)
+
+pub returns-in_err-place-clause-unmet : goal.returns-in_err-place-clause-unmet
+returns-in_err-place-clause-unmet g c =
+    let p = err_from_is_err_and c.from_residual-in_err-place.result c.from_residual-in_err-place.ensures.1 in
+    rw (p.1, p.2) (λ a.
+    let m = g.E.Events.machine c.args.engine.now in
+    let ss : List Write = c.as_slice-sets.result.now in
+    let apart : AreApart ss = subst AreApart (sym c.as_slice-sets.ensures.value) c.in_default.ensures.apart in
+    let free : AreFreeNow m ss c.in_ok-befores.befores.items = c.in_ok-befores.ensures.now a in
+    let now : AreBefores m.held.log ss c.deref-2.result.now = subst (λ (bs : List Image). AreBefores m.held.log ss bs) (sym c.deref-2.ensures.value) free.now in
+    start_unmet c.extra.result m ss c.args.changes.now m.held.log c.args.transaction.now.asks.items c.in_err-place.field-0.0 (c.in_err-place.ensures.refused a now apart))
 
 pub returns-in_err-place-clause-shown : goal.returns-in_err-place-clause-shown
 returns-in_err-place-clause-shown g c =

@@ -11,7 +11,7 @@ use Rattle.als_writer.specs.declared.closing.Closing.TheVariants as closing
 use Rattle.als_writer.specs.Changes.{AreBounds}
 use Rattle.als_writer.proofs.LastBounds.{last_write-commit}
 use Rattle.als_writer.proofs.Bounding.{refused_bounds}
-use Rattle.als_writer.proofs.Looking.{fed_shown}
+use Rattle.als_writer.proofs.Looking.{fed_shown, fed_unmet}
 use Rattle.als_writer.proofs.Closed.{fed_not_written}
 use Rattle.als_writer.proofs.writing.write.Goals as goal
 
@@ -48,4 +48,12 @@ returns-in_err-written-clause-shown g c =
     rw (p.1, p.2) (λ a bounds.
     let m : Machine = g.E.Events.machine c.args.engine.now in
     fed_shown m c.args.transaction.now (g.E.Events.machine c.feed_plan.new.engine) m.held.log c.args.transaction.now.asks.items c.in_err-written.field-0.0
+    (c.in_err-written.ensures.refused a closing.Commit (c.in_ok-planned.ensures.planned a)))
+
+pub returns-in_err-written-clause-unmet : goal.returns-in_err-written-clause-unmet
+returns-in_err-written-clause-unmet g c =
+    let p = err_from_is_err_and c.from_residual-in_err-written.result c.from_residual-in_err-written.ensures.1 in
+    rw (p.1, p.2) (λ a.
+    let m : Machine = g.E.Events.machine c.args.engine.now in
+    fed_unmet m c.args.transaction.now (g.E.Events.machine c.feed_plan.new.engine) c.args.changes.now m.held.log c.args.transaction.now.asks.items c.in_err-written.field-0.0
     (c.in_err-written.ensures.refused a closing.Commit (c.in_ok-planned.ensures.planned a)))

@@ -5,6 +5,7 @@ use Rattle.als_record.specs.Transactions.{greatest_trans}
 use Rattle.als_record.specs.Table.{table_of}
 use Rattle.als_record.specs.Tail.{reserve_of}
 use Rattle.als_log.specs.History.{records_in}
+use Rattle.als_lookback.specs.Doubts.{doubts_in}
 use Rattle.als_lookback.specs.Judged.{Judged}
 use Rattle.als_lookback.proofs.judge.Judge.standing.Goals as goal
 
@@ -19,4 +20,5 @@ returns c =
       reserve_is = λ lt. c.reserve_bytes.ensures pages log i.known (omega (arith, lt, ap end_of same)) ∙ ap reserve_of same;
       greatest_is = c.greatest.ensures pages log i.known ∙ ap greatest_trans same;
       rows_are = c.in_ok-rows.ensures ∙ c.rows.ensures.rows pages log i.known ∙ ap table_of same;
+      doubts_are = c.in_ok-doubts.ensures pages log i.known ∙ ap doubts_in same;
     }

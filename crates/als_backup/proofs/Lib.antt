@@ -1,0 +1,4 @@
+mod Texts
+mod Taken
+mod Readings
+mod Filled
