@@ -37,7 +37,7 @@ pub fn get<R: AllocGlobal + Files<File = File> + Wait, P: Progress + Advance, O:
     let folder = Folder::hold_to_read(rt, dir)?;
     let files = folder.open_to_read(rt)?;
     let database = database_of(rt.alloc(), &files)?;
-    let (engine, readers) = restarted(rt, &files, database, progress)?;
+    let (engine, readers) = restarted(rt, &files, &database, progress)?;
     let answer = read(rt, engine, readers, key, progress)?;
     let (commits, lsn) = (answer.commits, answer.lsn.0);
     writeln!(

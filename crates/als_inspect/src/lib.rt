@@ -8,6 +8,8 @@ mod fault;
 mod copying;
 // The log text of a file, or of a folder.
 mod log_text;
+// What the files say before a record is read, and which of them is wrong first.
+mod heads;
 // Why a record is refused.
 mod telling;
 // All records, counted.
@@ -26,6 +28,8 @@ mod page_checking;
 mod quiet;
 // What is not sound.
 mod unsound;
+// What a restart meets before it reads a page.
+mod judging;
 // Whether all is sound.
 mod verifying;
 

@@ -1,9 +1,10 @@
-ghost use Rattle.std.specs.Prelude.{◌≤◌, ◌*◌, ℕ, IfOk};
+ghost use Rattle.std.specs.Prelude.{◌≡◌, ◌≤◌, ◌*◌, ℕ, IfOk, IfErr};
 ghost use Rattle.als_disk.specs.MemDisk.{mem_blocks, mem_slot};
 ghost use Rattle.als_disk.specs.Slot.{IsSettled};
 
 use crate::copying::copy;
 use crate::fault::Fault;
+use crate::heads::whole_database_of;
 use als_ckpt::{ControlState, Fault as ControlFault, read_state};
 use als_disk::MemDisk;
 use als_engine::CONTROL_BLOCKS;
@@ -72,7 +73,9 @@ pub fn text_of_file<R: AllocGlobal + Files<File = File>, A: Advance>(
     if end < 16 {
         return Err(Fault::BadHeader);
     }
-    let pages = pages_of(first_bytes(&file)?)?;
+    let Some(pages) = pages_of(first_bytes(&file)?) else {
+        return Err(Fault::BadHeader);
+    };
     let disk = copy(rt.alloc(), &file, end, end.div_ceil(512), advance)?;
     text_in(rt.alloc(), disk, pages, end)
 }
@@ -95,31 +98,69 @@ pub fn text_of_folder<R: AllocGlobal + Files<File = File>, A: Advance>(
 ) -> Result<LogText, Fault> {
     let files = folder.open_to_read(rt)?;
     let database = database_of(rt.alloc(), &files)?;
+    text_below(rt.alloc(), &files, &database, advance)
+}
+
+/// The text of a database's log, as far as it is acknowledged.
+pub(crate) fn text_below<A: Advance>(
+    alloc: Global,
+    files: &DeviceFiles,
+    database: &Database,
+    advance: &mut A,
+) -> Result<LogText, Fault>
+    requires low { 16 ≤ database.now.state.mark.0 }
+    requires high { database.now.state.mark.0 ≤ 2147483648 }
+{
     let end = database.state.mark.0;
-    match copy(rt.alloc(), &files.log, end, end.div_ceil(512), advance) {
-        Ok(disk) => text_in(rt.alloc(), disk, database.pages, end),
+    match copy(alloc, &files.log, end, end.div_ceil(512), advance) {
+        Ok(disk) => text_in(alloc, disk, database.pages, end),
         Err(e) => Err(Fault::Folder(of_log(e))),
     }
 }
 
-/// What the files of a folder say of its database.
+/// What the log's header and the control block of a folder say of its database. Of pages.blk nothing is
+/// asked.
 ///
 /// BadHeader: the log begins with none. BadControl: nothing says how far it is acknowledged. Folder:
-/// the folder or a file of it failed, or the log or the control block's file is too short.
+/// the folder or a file of it failed, or the log or the control block's file is too short. Where several are
+/// wrong, the first one is named as `whole_database_of` does.
 pub fn database_of(alloc: Global, files: &DeviceFiles) -> Result<Database, Fault>
+    ensures { IfOk result (λ d. (16 ≤ d.state.mark.0) × (d.state.mark.0 ≤ 2147483648)) }
+{
+    match said_by(alloc, files) {
+        Ok(database) => Ok(database),
+        Err(fault) => Err(first_wrong(fault, whole_database_of(alloc, files))),
+    }
+}
+
+/// What is wrong first with files of which this is wrong, where this is their whole database.
+fn first_wrong(fault: Fault, whole: Result<Database, Fault>) -> Fault
+    ensures first { IfErr whole (λ first. result ≡ first) }
+    ensures other { IfOk whole (λ _. result ≡ fault) }
+{
+    match whole {
+        Ok(_) => fault,
+        Err(first) => first,
+    }
+}
+
+/// What the header and the control block say, of a database of as many pages as the header has.
+fn said_by(alloc: Global, files: &DeviceFiles) -> Result<Database, Fault>
     ensures { IfOk result (λ d. (16 ≤ d.state.mark.0) × (d.state.mark.0 ≤ 2147483648)) }
 {
     let found = files.sizes().map_err(of_folder)?;
     if found.log == 0 {
         return Err(damaged(Part::Log));
     }
-    let pages = pages_of(first_bytes(&files.log).map_err(of_log)?)?;
+    let Some(pages) = pages_of(first_bytes(&files.log).map_err(of_log)?) else {
+        return Err(Fault::BadHeader);
+    };
     let state = control_state(alloc, &files.control, pages, found)?;
     Ok(Database { pages, state })
 }
 
 /// What the control block says. A log that ends in front of the mark is damaged.
-fn control_state(
+pub(crate) fn control_state(
     alloc: Global,
     control: &File,
     pages: u32,
@@ -141,12 +182,17 @@ fn control_state(
             }
             Ok(state)
         }
-        Err(ControlFault::Device) => Err(Fault::Folder(FolderFault::Device(Trouble {
-            part: Part::Control,
-            wrong: Wrong::Failed,
-        }))),
+        Err(ControlFault::Device) => Err(control_failed()),
         Err(_) => Err(Fault::BadControl),
     }
+}
+
+/// The file of the control block failed.
+pub(crate) fn control_failed() -> Fault {
+    Fault::Folder(FolderFault::Device(Trouble {
+        part: Part::Control,
+        wrong: Wrong::Failed,
+    }))
 }
 
 /// A file of the folder is too short.
@@ -156,27 +202,26 @@ pub fn damaged(part: Part) -> Fault {
 }
 
 /// What the failure of a question about the folder's files is.
-fn of_folder(e: io::Error) -> FolderFault {
+pub(crate) fn of_folder(e: io::Error) -> FolderFault {
     FolderFault::of(Part::Itself, e)
 }
 
 /// What the failure of a call on the folder's log is.
-fn of_log(e: io::Error) -> FolderFault {
+pub(crate) fn of_log(e: io::Error) -> FolderFault {
     FolderFault::of(Part::Log, e)
 }
 
 /// The first bytes of a file, as many as a header has.
-fn first_bytes(file: &File) -> io::Result<[u8; 16]> {
+pub(crate) fn first_bytes(file: &File) -> io::Result<[u8; 16]> {
     let mut bytes = [0; 16];
     file.read_exact_at(&mut bytes, 0)?;
     Ok(bytes)
 }
 
-/// The page count that a header says.
-fn pages_of(header: [u8; 16]) -> Result<u32, Fault> {
+/// The page count that a header says. None: the bytes are no header.
+pub(crate) fn pages_of(header: [u8; 16]) -> Option<u32> {
     match LogHeader::decode(&header) {
-        Ok(Some(header)) => Ok(header.pages),
-        Ok(None) => Err(Fault::BadHeader),
-        Err(_) => Err(Fault::BadHeader),
+        Ok(Some(header)) => Some(header.pages),
+        Ok(None) | Err(_) => None,
     }
 }

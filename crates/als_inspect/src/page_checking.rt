@@ -1,8 +1,11 @@
 use crate::copying::copy;
 use crate::counting::is_told;
 use crate::fault::Fault;
-use crate::log_text::{Database, LogText, database_of, text_of_folder};
+use crate::heads::whole_database_of;
+use crate::judging::first_fault;
+use crate::log_text::{LogText, text_below};
 use crate::telling::told;
+use crate::verifying::is_finding;
 use als_ckpt::{Fault as ControlFault, read_said};
 use als_engine::{CONTROL_BLOCKS, Fault as EngineFault};
 use als_folder::{DeviceFiles, Fault as FolderFault, Folder, LOG_LIMIT, Part};
@@ -13,15 +16,17 @@ use std::alloc::Global;
 use std::fs::File;
 use std::os::unix::fs::FileExt;
 use std::rt::Files;
+use std::sync::Wait;
 
 /// Checks the pages of a folder's node against its log, as far as that is acknowledged: the block of
 /// each page has to be what the log makes of the page at the block's page_LSN, and may lack no change
 /// that a restart would not redo. The folder is only read. Where it has no database nothing is checked.
 /// `advance` receives how far its log was read.
 ///
-/// Standby(BadPage): the first page that is not so. Else as a restart refuses the folder. Memory:
-/// there was none for a copy of the log, or for 1,032 bytes a page.
-pub fn check_pages<R: AllocGlobal + Files<File = File>, A: Advance>(
+/// Standby(BadPage): the first page that is not so, where a restart meets nothing else before its pages. Else the
+/// first that a restart meets, as `verify` names it. Memory: there was none for a copy of the log, or for 1,032
+/// bytes a page.
+pub fn check_pages<R: AllocGlobal + Files<File = File> + Wait, A: Advance>(
     rt: &R,
     dir: &str,
     advance: &mut A,
@@ -30,7 +35,10 @@ pub fn check_pages<R: AllocGlobal + Files<File = File>, A: Advance>(
     if !folder.is_kept(rt)? {
         return Ok(());
     }
-    check_folder(rt, &folder, advance)
+    match check_folder(rt, &folder, advance) {
+        Err(fault) if is_finding(fault) => Err(first_fault(rt, &folder, fault, advance)),
+        checked => checked,
+    }
 }
 
 /// The same of a folder that is held.
@@ -40,9 +48,9 @@ pub(crate) fn check_folder<R: AllocGlobal + Files<File = File>, A: Advance>(
     advance: &mut A,
 ) -> Result<(), Fault> {
     let files = folder.open_to_read(rt)?;
-    let database = database_of(rt.alloc(), &files)?;
-    let mut checks = checks_of(rt.alloc(), &files, database)?;
-    let text = text_of_folder(rt, folder, advance)?;
+    let database = whole_database_of(rt.alloc(), &files)?;
+    let mut checks = checks_of(rt.alloc(), &files, database.pages)?;
+    let text = text_below(rt.alloc(), &files, &database, advance)?;
     note_all(text, &mut checks, advance)?;
     match checks.first_differing() {
         Some(page) => Err(Fault::Standby(EngineFault::BadPage { page })),
@@ -67,8 +75,7 @@ fn note_all<A: Advance>(text: LogText, checks: &mut Checks, advance: &mut A) -> 
 }
 
 /// Each page with its block, and with the LSN from which on a restart redoes its changes.
-fn checks_of(alloc: Global, files: &DeviceFiles, database: Database) -> Result<Checks, Fault> {
-    let pages = database.pages;
+fn checks_of(alloc: Global, files: &DeviceFiles, pages: u32) -> Result<Checks, Fault> {
     let (from, rows) = rows_of(alloc, files, pages)?;
     let mut checks = Checks::new(alloc);
     for page in 0..pages {

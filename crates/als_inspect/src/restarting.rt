@@ -19,10 +19,10 @@ use std::sync::Wait;
 pub fn restarted<R: AllocGlobal + Wait, A: Advance>(
     rt: &R,
     files: &DeviceFiles,
-    database: Database,
+    database: &Database,
     advance: &mut A,
 ) -> Result<(Engine<MemDisk>, Vec<Reader>), Fault>
-    requires { database.state.mark.0 ≤ 2147483648 }
+    requires { database.now.state.mark.0 ≤ 2147483648 }
     ensures readers { IfOk result (λ t. AreReaders t.0.book t.0.machine.held.pages t.1.items
         × (length t.1.items ≡ 1)) }
 {
@@ -49,7 +49,7 @@ pub fn restarted<R: AllocGlobal + Wait, A: Advance>(
 fn copies<A: Advance>(
     alloc: Global,
     files: &DeviceFiles,
-    database: Database,
+    database: &Database,
     advance: &mut A,
 ) -> Result<Disks<MemDisk>, Fault> {
     let sizes = sizes_of(files)?;

@@ -33,7 +33,7 @@ pub fn status<R: AllocGlobal + Files<File = File> + Wait, A: Advance, O: Write>(
     let role = folder.role(rt)?;
     let files = folder.open_to_read(rt)?;
     let database = database_of(rt.alloc(), &files)?;
-    let (engine, readers) = restarted(rt, &files, database, advance)?;
+    let (engine, readers) = restarted(rt, &files, &database, advance)?;
     drop(readers);
     let capacity = files.sizes()?.log.saturating_mul(BLOCK);
     tell(rt.alloc(), &database, &engine, capacity, role, output)

@@ -1,15 +1,15 @@
-use crate::counting::read_all_telling;
 use crate::fault::Fault;
-use crate::log_text::{LogText, database_of, text_of_file, text_of_folder};
+use crate::heads::whole_database_of;
+use crate::judging::{before_pages, judge_log, judge_text};
+use crate::log_text::text_of_file;
 use crate::page_checking::check_folder;
 use crate::quiet::Quiet;
 use crate::restarting::restarted;
-use crate::telling::told;
 use crate::unsound::Unsound;
 use als_comparing::HeldLog;
 use als_drive::{Progress, listing, recover_telling};
 use als_fault::FaultKind;
-use als_folder::{DeviceFiles, Fault as FolderFault, Folder, Part, Trouble, Wrong};
+use als_folder::Folder;
 use als_progress::{Advance, Work};
 use als_ship::Fault as SessionFault;
 use std::alloc::Global;
@@ -74,7 +74,7 @@ pub fn verify_telling<R: AllocGlobal + Files<File = File> + Wait, P: Progress + 
 }
 
 /// Whether a fault is one of what is read, and not of the reading.
-fn is_finding(fault: Fault) -> bool {
+pub(crate) fn is_finding(fault: Fault) -> bool {
     !matches!(
         fault.kind(),
         FaultKind::Memory | FaultKind::Stream | FaultKind::Device
@@ -166,18 +166,20 @@ fn sum_to(alloc: Global, log: &mut HeldLog<File>, end: u64) -> Result<[u8; 32], 
     }
 }
 
-/// Reads the log of a folder's standby, opens a copy of it as a restart does, with each of its
-/// pages, and checks the pages against the log.
+/// Judges a folder's node, in the order in which a restart meets its parts: the control device, the log, its
+/// room for a takeover, and then the pages in rising order, each against the log.
 fn judge_folder<R: AllocGlobal + Files<File = File> + Wait, P: Progress + Advance>(
     rt: &R,
     path: &str,
     progress: &mut P,
 ) -> Result<Found, Unsound> {
     let folder = hold(rt, path)?;
-    let (records, end) = judge_text(text_of_folder(rt, &folder, progress)?, false, progress)?;
+    let (records, end) = judge_log(rt, &folder, progress)?;
     let digest = digest_of_folder(rt, path, end, progress)?;
-    restart(rt, &folder, progress)?;
+    let restarted = restart(rt, &folder, progress);
+    before_pages(restarted)?;
     check_folder(rt, &folder, progress)?;
+    restarted?;
     Ok(Found {
         records,
         end,
@@ -190,25 +192,6 @@ fn hold<R: AllocGlobal + Files<File = File>>(rt: &R, path: &str) -> Result<Folde
     Ok(Folder::hold_to_read(rt, path)?)
 }
 
-/// Reads all records of a text, and answers how many there are and where they end.
-fn judge_text<A: Advance>(
-    text: LogText,
-    is_file: bool,
-    advance: &mut A,
-) -> Result<(u64, u64), Unsound> {
-    let mut text = text;
-    let whole = text.whole;
-    let read = read_all_telling(&mut text.records, whole, advance);
-    let end = text.records.end().0;
-    match read {
-        Ok(records) => Ok((records, end)),
-        Err(fault) => Err(Unsound {
-            lsn: end,
-            fault: told(fault, is_file),
-        }),
-    }
-}
-
 /// Opens a copy of a folder's devices as a restart does, redoes what it would redo, and reads each
 /// page.
 fn restart<R: AllocGlobal + Files<File = File> + Wait, P: Progress + Advance>(
@@ -217,27 +200,10 @@ fn restart<R: AllocGlobal + Files<File = File> + Wait, P: Progress + Advance>(
     progress: &mut P,
 ) -> Result<(), Fault> {
     let files = folder.open_to_read(rt)?;
-    let database = database_of(rt.alloc(), &files)?;
-    check_page_count(&files, database.pages)?;
-    let (mut engine, readers) = restarted(rt, &files, database, progress)?;
+    let database = whole_database_of(rt.alloc(), &files)?;
+    let (mut engine, readers) = restarted(rt, &files, &database, progress)?;
     drop(readers);
     recover_telling(rt, &mut engine, progress)?;
     listing(rt.alloc(), &mut engine)?;
     Ok(())
-}
-
-/// Refuses a `pages.blk` of more blocks than its database has pages: so does each command that takes its
-/// page count from there, `als takeover` for one.
-fn check_page_count(files: &DeviceFiles, pages: u32) -> Result<(), Fault> {
-    let blocks = match files.sizes() {
-        Ok(sizes) => sizes.pages,
-        Err(e) => return Err(Fault::Folder(FolderFault::of(Part::Pages, e))),
-    };
-    if blocks <= u64::from(pages) {
-        return Ok(());
-    }
-    Err(Fault::Folder(FolderFault::Damaged(Trouble {
-        part: Part::Pages,
-        wrong: Wrong::Long { blocks, pages },
-    })))
 }

@@ -66,7 +66,7 @@ pub fn serve_primary<
 
 /// Refuses a page that is not what its log makes of it. A number that is out of its range, and a follower that
 /// is no address, is left to the command: no folder is looked at for it.
-fn check_pages<R: AllocGlobal + Files<File = File> + Clock, E: Write>(
+fn check_pages<R: AllocGlobal + Files<File = File> + Wait + Clock, E: Write>(
     rt: &R,
     terminals: Terminals,
     serving: Serving<'_>,

@@ -5,12 +5,13 @@ use als_inspect::{check_pages, is_following};
 use std::fs::File;
 use std::io::Write;
 use std::rt::Files;
+use std::sync::Wait;
 use std::time::Clock;
 
-/// Refuses a page that is not what its log makes of it, before anything is written. Refuses too where the
-/// check has no memory, or another program has the folder or one of its files. What else is wrong with the
-/// folder the command itself reports, in its own order. Behind it the command reads the log once more.
-pub fn check_sound<R: AllocGlobal + Files<File = File>, W: Write, C: Clock>(
+/// Refuses a folder whose files are damaged, before anything is written, by the first fault that `als verify`
+/// names too. Refuses too where the check has no memory, or another program has the folder or one of its files.
+/// A file that fails, or is not there, the command itself reports. Behind it the command reads the log once more.
+pub fn check_sound<R: AllocGlobal + Files<File = File> + Wait, W: Write, C: Clock>(
     rt: &R,
     dir: &str,
     lines: &mut RedoLines<'_, W, C>,
@@ -27,7 +28,7 @@ pub fn check_sound<R: AllocGlobal + Files<File = File>, W: Write, C: Clock>(
 
 /// The same of a folder that a standby is to follow with. One that was taken over the standby itself refuses:
 /// its log is not judged for it.
-pub fn check_followable<R: AllocGlobal + Files<File = File>, W: Write, C: Clock>(
+pub fn check_followable<R: AllocGlobal + Files<File = File> + Wait, W: Write, C: Clock>(
     rt: &R,
     dir: &str,
     lines: &mut RedoLines<'_, W, C>,
@@ -38,10 +39,10 @@ pub fn check_followable<R: AllocGlobal + Files<File = File>, W: Write, C: Clock>
     }
 }
 
-/// Whether a command behind the check may pass over what refused it.
+/// Whether a command ends with what the check found. A command behind it may pass over the rest.
 fn ends_check(refusal: Refusal) -> bool {
     match refusal.kind {
-        FaultKind::BadPage { page: _ } | FaultKind::Memory => true,
-        _ => refusal.is_of_lock(),
+        FaultKind::Device | FaultKind::Stream => refusal.is_of_lock(),
+        _ => true,
     }
 }
