@@ -28,8 +28,6 @@ mod asking;
 mod filling;
 // Which hosts a request may name.
 mod hosts;
-// Decimal numbers in a request.
-mod numbers;
 // The header fields of the page's texts.
 mod page_fields;
 // What a request asks for.
@@ -68,6 +66,8 @@ mod spare;
 mod turn;
 // The last answer of a connection says that it is.
 mod leaving;
+// A read that may wait is asked again.
+mod patient;
 
 pub use answering::Answering;
 pub use asked::Asked;
@@ -75,8 +75,7 @@ pub use asking::asked_by;
 pub use hosts::{Hosts, is_own};
 pub use limits::{MOST_THREADS, THREADS, config, config_with};
 pub use listening::listen;
-pub use numbers::number;
 pub use query::{Query, Wrong};
 pub use reply::Reply;
 pub use servers::Servers;
-pub use telling::{AT_LEAST, query_of};
+pub use telling::{AT_LEAST, WAIT, query_of};

@@ -31,6 +31,16 @@ value_tokens a =
     begin_object ∷ key (codes "value") ∷ image_token a.value ∷ key (codes "commits") ∷ number (decimal a.commits)
     ∷ key (codes "lsn") ∷ number (decimal a.lsn.0) ∷ end_object ∷ []
 
+-- the images of keys, in their order
+abbrev pub images_tokens : List Image → List Token
+images_tokens images = (key (codes "values") ∷ begin_array ∷ []) ++ (map image_token images ++ (end_array ∷ []))
+
+-- an answer of many keys: their values in order, and what all of them are of
+abbrev pub many_tokens : Many → List Token
+many_tokens m =
+    (begin_object ∷ []) ++ (images_tokens m.images.items ++ (member_tokens (codes "commits") (Some m.commits)
+    ++ (member_tokens (codes "lsn") (Some m.lsn.0) ++ (end_object ∷ []))))
+
 -- the state, and how far the log goes
 abbrev pub log_tokens : Report → List Token
 log_tokens r =
@@ -90,3 +100,5 @@ abbrev pub why_unread : Unread → List ℕ
 why_unread Warming = codes "35 Warming: no commits are published yet"
 why_unread Stopped = codes "31 Stopped: the view has ended"
 why_unread (Older lsn) = codes "the commit that Als-At-Least names is not published yet"
+why_unread NoSuchKey = codes "the database has no such page or slot"
+why_unread Memory = codes "no memory for the values"
