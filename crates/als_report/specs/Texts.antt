@@ -1,16 +1,17 @@
 -- The JSON texts of replies, as tokens.
-use Rattle.std.specs.Prelude.{ℕ, Bool, List, [], ◌∷◌, ◌++◌, codes, decimal, Option, Some, None, if◌then◌else◌}
-use Rattle.json.specs.Token.{Token, begin_object, end_object, key, string, number, boolean, null}
+use Rattle.std.specs.Prelude.{ℕ, Bool, List, [], ◌∷◌, ◌++◌, map, codes, decimal, Option, Some, None, if◌then◌else◌}
+use Rattle.json.specs.Token.{Token, begin_object, end_object, begin_array, end_array, key, string, number, boolean, null}
 use Rattle.hex.specs.Hex.{encode_lower}
 use Rattle.als_record.specs.Spelling.{Image}
 use Rattle.als_view.specs.declared.answer.Answer.{Answer}
+use Rattle.als_view.specs.declared.many.Many.{Many}
 use Rattle.als_report.specs.States.{name_of_state}
 use Rattle.als_report.specs.Health.{room_of, takeovers_left, transactions_left, takes_commits}
 use Rattle.als_report.specs.Followers.{primary_tokens, number_tokens}
 use Rattle.als_report.specs.declared.refusals.Refusals.{Refusals}
 use Rattle.als_report.specs.declared.report.Report.{Report}
 use Rattle.als_report.specs.declared.unread.Unread.{Unread}
-use Rattle.als_report.specs.declared.unread.Unread.TheVariants.{Warming, Stopped, Older}
+use Rattle.als_report.specs.declared.unread.Unread.TheVariants.{Warming, Stopped, Older, NoSuchKey, Memory}
 
 -- an image in lower case hexadecimal
 abbrev pub image_token : Image → Token

@@ -50,8 +50,10 @@ pub use board::{Board, Watch};
 pub use errors::{error_text, unread_text};
 pub use follower::Follower;
 pub use follower_row::FollowerRow;
+pub use many::many_text;
 pub use metrics::{VERSION, metrics_text};
 pub use reading::{published, read};
+pub use reading_many::read_many;
 pub use refusals::Refusals;
 pub use report::{
     MOST_FOLLOWERS, MOST_IN_DOUBT, MOST_TAKEOVERS, MOST_TRANSACTIONS, PATIENCE, QUIET, Report,
