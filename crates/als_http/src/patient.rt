@@ -11,7 +11,7 @@ use http_server::{Response, Service};
 use std::alloc::AllocError;
 use std::sync::Wait;
 use std::thread;
-use std::time::Duration;
+use std::time::{Clock, Duration};
 
 /// How often a read is asked again in a second.
 const LOOKS: u64 = 1_000 / NAP;
@@ -26,7 +26,7 @@ pub(crate) struct Patient<'a, V, C> {
     connections: &'a Connections,
 }
 
-impl<'a, V: Service, C: Wait> Patient<'a, V, C> {
+impl<'a, V: Service, C: Clock + Wait> Patient<'a, V, C> {
     /// The service over a connection of these threads.
     pub fn new(
         service: &'a mut V,
@@ -68,7 +68,7 @@ impl<'a, V: Service, C: Wait> Patient<'a, V, C> {
     }
 }
 
-impl<V: Service, C: Wait> Service for Patient<'_, V, C> {
+impl<V: Service, C: Clock + Wait> Service for Patient<'_, V, C> {
     // The service's last answer.
     ghost answers = { λ old request response new.
         AnswersAtLast V.answers request old.service.now response new.service.now };

@@ -114,7 +114,7 @@ fn two_threads_answer_beside_a_publisher(rt: HostRuntime) -> Result<(), Fail> {
 }
 
 /// Publishes all commits after a while.
-fn publish_late<R: Wait>(rt: &R, alloc: Global, log: &mut PublishedLog) -> bool {
+fn publish_late<R: Clock + Wait>(rt: &R, alloc: Global, log: &mut PublishedLog) -> bool {
     thread::sleep(rt, Duration::from_millis(300));
     publish_all(rt, alloc, log)
 }
