@@ -9,7 +9,6 @@ use bytes::Bytes;
 use http::{Request, StatusCode};
 use http_server::{Response, Service};
 use std::alloc::AllocError;
-use std::sync::Wait;
 use std::thread;
 use std::time::{Clock, Duration};
 
@@ -26,7 +25,7 @@ pub(crate) struct Patient<'a, V, C> {
     connections: &'a Connections,
 }
 
-impl<'a, V: Service, C: Clock + Wait> Patient<'a, V, C> {
+impl<'a, V: Service, C: Clock> Patient<'a, V, C> {
     /// The service over a connection of these threads.
     pub fn new(
         service: &'a mut V,
@@ -40,17 +39,30 @@ impl<'a, V: Service, C: Clock + Wait> Patient<'a, V, C> {
         }
     }
 
-    /// Asks again for so many seconds, while the answer is a 503 and the threads go on.
+    /// Asks again, while the answer is a 503, the threads go on and these seconds are not over.
     fn ask_on(&mut self, request: &Request<Bytes>, response: &mut Response, seconds: u64)
         requires { may_wait request.now ≡ true }
         ensures { (start : V) → AnswersAtLast V.answers request.now start response.old self.old.service.now
             → AnswersAtLast V.answers request.now start response.new self.new.service.now }
     {
+        let begun = self.clock.monotonic().ok();
         for _ in 0..seconds.saturating_mul(LOOKS) {
-            if response.status != StatusCode::SERVICE_UNAVAILABLE || self.connections.is_closed() {
+            if response.status != StatusCode::SERVICE_UNAVAILABLE || self.ends(begun, seconds) {
                 break;
             }
             self.ask_later(request, response);
+        }
+    }
+
+    /// Whether no answer is waited for any more: the threads are to end, or these seconds are over. Without a
+    /// clock they are.
+    fn ends(&self, begun: Option<Duration>, seconds: u64) -> bool {
+        match (begun, self.clock.monotonic()) {
+            (Some(begun), Ok(now)) => {
+                self.connections.is_closed()
+                    || now.saturating_sub(begun) >= Duration::from_secs(seconds)
+            }
+            _ => true,
         }
     }
 
@@ -68,7 +80,7 @@ impl<'a, V: Service, C: Clock + Wait> Patient<'a, V, C> {
     }
 }
 
-impl<V: Service, C: Clock + Wait> Service for Patient<'_, V, C> {
+impl<V: Service, C: Clock> Service for Patient<'_, V, C> {
     // The service's last answer.
     ghost answers = { λ old request response new.
         AnswersAtLast V.answers request old.service.now response new.service.now };

@@ -69,7 +69,7 @@ fn seat_of(connections: &Connections, addr: &SocketAddr, is_free: bool) -> Optio
 }
 
 /// Serves the requests of a connection.
-fn serve_one<T: Read + Write + OpenStream + Drop, V: Service, C: Clock + Wait>(
+fn serve_one<T: Read + Write + OpenStream + Drop, V: Service, C: Clock>(
     alloc: Global,
     stream: T,
     service: &mut V,
