@@ -15,7 +15,9 @@
 //! 4. No guest waits for the answer to another one, if its request reads. Requests that may wait stand in a
 //!    line, and one thread answers them; if it is full, they are refused at once.
 //! 5. One peer has at most one connection less than there are waiting threads, if there are several.
-//! 6. What a request is (`query_of`), what it is answered (`Reply`) and the response (`show`) make no system
+//! 6. A read that names how long it may wait (`Als-Wait`) is asked again by the thread of its connection,
+//!    with no lock and no place in a copy held meanwhile. A guest's does not wait.
+//! 7. What a request is (`query_of`), what it is answered (`Reply`) and the response (`show`) make no system
 //!    call, and are proved exactly. Times and sockets are tested.
 #![tactic(auto)]
 

@@ -438,7 +438,7 @@ fn a_host_of_another_node_is_misdirected(rt: HostRuntime) -> Result<(), Fail> {
 }
 
 #[test]
-fn a_request_has_at_most_eight_kilobytes(rt: HostRuntime) -> Result<(), Fail> {
+fn a_head_has_at_most_seven_kilobytes(rt: HostRuntime) -> Result<(), Fail> {
     let alloc = rt.alloc();
     let keys = RandomState::new(&rt)?;
     let (log, mut readers) = published(&rt, alloc, 1).ok_or("memory")?;
