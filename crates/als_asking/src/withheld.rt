@@ -1,5 +1,5 @@
 ghost use Rattle.std.specs.Prelude.{◌≡◌};
-ghost use Rattle.als_asking.specs.Withholding.{reads_commits, is_value};
+ghost use Rattle.als_asking.specs.Withholding.{reads_commits, reads_keys};
 
 use crate::denied::Denied;
 use crate::entry::IN_DOUBT;
@@ -75,12 +75,12 @@ impl<V: Service> Service for Withheld<V> {
 fn reads_commits(path: &str) -> bool
     ensures { result ≡ reads_commits path.now }
 {
-    path == IN_DOUBT || is_value(asked_by(path))
+    path == IN_DOUBT || reads_keys(asked_by(path))
 }
 
-/// Whether a key is asked for.
-fn is_value(asked: Asked) -> bool
-    ensures { result ≡ is_value asked }
+/// Whether keys are asked for: one, those of a page, or those that a body names.
+fn reads_keys(asked: Asked) -> bool
+    ensures { result ≡ reads_keys asked }
 {
-    matches!(asked, Asked::Value(_))
+    matches!(asked, Asked::Value(_) | Asked::Page(_) | Asked::Many)
 }

@@ -139,8 +139,10 @@ waits for a DIR that another program has, for up to a minute. With --explain, or
 standard error says once a minute at most that nothing comes; always, where DIR is not opened yet.
 One session has an end where its log has: of `als ship` without --follow. At a live primary, or
 at a standby with --listen, it goes on until one of the two goes away.
-With --serve it answers over HTTP: GET /keys/P/S, /status, /metrics and /health; /standby, for load
-balancers, is as /health, and /primary is 503. Nothing is encrypted, and nobody is asked who he is.
+With --serve it answers over HTTP: GET /keys/P/S (a slot), /keys/P (a page), /status, /metrics and
+/health, and POST /read {\"keys\":[[P,S],..]}: up to 600 slots, all after the same commits; /standby,
+for load balancers, is as /health, and /primary is 503. Nothing is encrypted, and nobody is asked
+who he is.
 With --keep, --serve or --listen one thread redoes at least: --workers 0 is 1.
 Before each session it asks ADDR, over a connection of its own, whether its log is the one that DIR
 holds. A node that hangs up on that three times is refused with 43. With --uncompared it is followed
@@ -314,9 +316,9 @@ Redoes what was not redone, undoes what a crash left in mid-transaction, and ans
   POST /prepare           the same, but it is in doubt, and holds its keys, until it is decided
   POST /decide            {\"trans\":T,\"commit\":true} commits T, false rolls it back; 404: not in doubt
   GET /in-doubt           [{\"trans\":T,\"lsn\":L}]: the transactions in doubt
-  GET /keys/P/S, /status, /metrics and /health, as `als standby --serve` does; /primary, for load
-                          balancers: 200 while commits are taken, and confirmed, else 503;
-                          /standby: 503
+  GET /keys/P/S, /keys/P, /status, /metrics, /health, POST /read: as `als standby --serve` does;
+                          /primary, for load balancers: 200 while commits are taken, and confirmed,
+                          else 503; /standby: 503
 It writes what waits as a group, forces the log once, and then answers all of the group. It ends
 only where a file, or memory again and again, fails; a kill at any time loses nothing that was
 answered 200: run it again.

@@ -1,5 +1,5 @@
 mod WorkedPaths
 mod WorkedHosts
 pub mod ReplyLaws
-pub mod NumberLaws
 pub mod AskingLaws
+pub mod WaitingLaws

@@ -1,13 +1,15 @@
 ghost use Rattle.std.specs.Prelude.{◌≡◌};
 ghost use Rattle.http_server.specs.Response.{IsBlank};
-ghost use Rattle.als_http.specs.Replies.{Replies, GoesOn, Answers};
+ghost use Rattle.als_http.specs.Replies.{Replies, RepliesAll, RepliesAsked, GoesOn, Answers};
 
 use crate::filling::show;
 use crate::hosts::Hosts;
-use crate::query::Query;
+use crate::query::{Query, Wrong};
 use crate::reply::Reply;
 use crate::telling::query_of;
-use als_report::{Reports, published, read};
+use als_keys::{Unasked, keys_of, page_keys};
+use als_record::{Key, Lsn};
+use als_report::{Reports, Unread, published, read, read_many};
 use als_view::Reader;
 use bytes::Bytes;
 use http::Request;
@@ -57,10 +59,10 @@ impl<S: Reports> Answering<S> {
         self.hosts = hosts;
     }
 
-    /// The reply to a query.
+    /// The reply to a query, with the body of its request.
     #[tactic(auto, using(crate::proofs::ReplyLaws::goes_on_self))]
-    pub fn reply(&mut self, query: Query) -> Reply
-        ensures reply { Replies (S.tells self.old.standing) query result self.old.reader
+    pub fn reply(&mut self, query: Query, body: &[u8]) -> Reply
+        ensures reply { Replies (S.tells self.old.standing) query body.now result self.old.reader
             self.new.reader }
         ensures reader { GoesOn self.old.reader self.new.reader }
         ensures standing { self.new.standing ≡ self.old.standing }
@@ -70,6 +72,8 @@ impl<S: Reports> Answering<S> {
                 Ok(answer) => Reply::Value(answer),
                 Err(why) => Reply::Unread(why),
             },
+            Query::Page(page, at_least) => self.read_all(&page_keys(page), at_least),
+            Query::Many(at_least) => self.read_asked(body, at_least),
             Query::Status => {
                 let report = self.standing.report();
                 Reply::Status(report, published(&mut self.reader))
@@ -92,24 +96,50 @@ impl<S: Reports> Answering<S> {
         }
     }
 
-    /// Fills a response by the reply to a query.
-    fn respond(&mut self, query: Query, response: &mut Response)
+    /// The reply to a read of the keys that a body names.
+    #[tactic(auto, using(crate::proofs::ReplyLaws::goes_on_self))]
+    fn read_asked(&mut self, body: &[u8], at_least: Lsn) -> Reply
+        ensures reply { RepliesAsked body.now at_least result self.old.reader self.new.reader }
+        ensures reader { GoesOn self.old.reader self.new.reader }
+        ensures standing { self.new.standing ≡ self.old.standing }
+    {
+        match keys_of(self.alloc, body) {
+            Ok(keys) => self.read_all(keys.as_slice(), at_least),
+            Err(Unasked::Memory) => Reply::Unread(Unread::Memory),
+            Err(Unasked::NoKeys) => Reply::Refused(Wrong::Body),
+        }
+    }
+
+    /// The reply to a read of these keys.
+    fn read_all(&mut self, keys: &[Key], at_least: Lsn) -> Reply
+        ensures reply { RepliesAll keys.now at_least result self.old.reader self.new.reader }
+        ensures reader { GoesOn self.old.reader self.new.reader }
+        ensures standing { self.new.standing ≡ self.old.standing }
+    {
+        match read_many(self.alloc, &mut self.reader, keys, at_least) {
+            Ok(many) => Reply::Many(many),
+            Err(why) => Reply::Unread(why),
+        }
+    }
+
+    /// Fills a response by the reply to a query with the body of its request.
+    fn respond(&mut self, query: Query, body: &[u8], response: &mut Response)
         requires { IsBlank response.old }
-        ensures { Answers (S.tells self.old.standing) query self.old.reader response.new
+        ensures { Answers (S.tells self.old.standing) query body.now self.old.reader response.new
             self.new.reader }
     {
-        let made = self.reply(query);
+        let made = self.reply(query, body);
         show(self.alloc, &made, response);
     }
 }
 
 impl<S: Reports> Service for Answering<S> {
-    ghost use Rattle.http.specs.Request.{head_of};
+    ghost use Rattle.http.specs.Request.{head_of, body_of};
     ghost use Rattle.als_http.specs.Telling.{query_of};
 
     ghost answers = { λ old request response new.
-        Answers (S.tells old.standing) (query_of old.hosts (head_of request)) old.reader response
-        new.reader };
+        Answers (S.tells old.standing) (query_of old.hosts (head_of request)) (body_of request)
+        old.reader response new.reader };
 
     fn call(
         &mut self,
@@ -117,7 +147,7 @@ impl<S: Reports> Service for Answering<S> {
         response: &mut Response,
     ) -> Result<(), AllocError> {
         let query = query_of(request, self.hosts);
-        self.respond(query, response);
+        self.respond(query, request.body(), response);
         Ok(())
     }
 }

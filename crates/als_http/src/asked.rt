@@ -6,6 +6,10 @@ use als_record::Key;
 pub enum Asked {
     /// `/keys/P/S`: the value of slot S of page P. A slot above 255, which no page has, is 255.
     Value(Key),
+    /// `/keys/P`: the values of all slots of page P.
+    Page(u32),
+    /// `/read`: the values of the keys that the body names.
+    Many,
     /// `/status`.
     Status,
     /// `/metrics`.
@@ -18,7 +22,7 @@ pub enum Asked {
     Standby,
     /// A text of the page: `/`, `/page.js` or `/page.css`.
     Console(Text),
-    /// `/keys/P/S`, where P or S is not a number below 2^32.
+    /// `/keys/P/S` or `/keys/P`, where P or S is not a number below 2^32.
     NoNumber,
     /// Any other path.
     Nothing,

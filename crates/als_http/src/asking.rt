@@ -1,18 +1,21 @@
 ghost use Rattle.std.specs.Prelude.{◌≡◌, ◌<◌, length, IfSome};
 ghost use Rattle.std.specs.List.{position_from};
-ghost use Rattle.als_http.specs.Asking.{asked_by, role_asked, page_asked, key_asked};
-ghost use Rattle.als_http.specs.Asking.{slot_asked, is_slash};
+ghost use Rattle.als_http.specs.Asking.{asked_by, role_asked, read_asked, page_asked, key_asked};
+ghost use Rattle.als_http.specs.Asking.{page_numbered, slot_asked, is_slash};
 
 use crate::asked::Asked;
-use crate::numbers::number;
 use als_console::Text;
+use als_keys::number;
 use als_record::Key;
 
 /// The greatest page or slot that a path may name.
 const LAST: u64 = u32::MAX as u64;
 
-/// What precedes the two numbers of a key.
+/// What precedes the two numbers of a key, or the one of a page.
 const KEYS: &[u8] = b"/keys/";
+
+/// The path at which keys are read that a body names.
+const READ: &str = "/read";
 
 /// What a path asks for.
 #[tactic(auto, unfolding(crate::specs::Asking::asked_by))]
@@ -44,8 +47,19 @@ fn role_of(path: &str) -> Asked
     }
     match path.as_bytes().strip_prefix(KEYS) {
         Some(text) => slot_of(text),
-        None => page_of(path),
+        None => read_of(path),
     }
+}
+
+/// What a path asks for that names a read of many keys, or else a text of the page.
+#[tactic(auto, unfolding(crate::specs::Asking::read_asked))]
+fn read_of(path: &str) -> Asked
+    ensures { result ≡ read_asked path.now }
+{
+    if path == READ {
+        return Asked::Many;
+    }
+    page_of(path)
 }
 
 /// Which text of the page a path asks for.
@@ -66,13 +80,22 @@ fn page_of(path: &str) -> Asked
 }
 
 /// What the text after `/keys/` asks for.
-#[tactic(auto, using(crate::proofs::AskingLaws::slot_missing))]
 fn slot_of(text: &[u8]) -> Asked
     ensures { result ≡ slot_asked text.now }
 {
     match slash_in(text) {
         Some(at) => key_of(number(&text[..at]), number(&text[at + 1..])),
-        None => Asked::Nothing,
+        None => page_numbered(number(text)),
+    }
+}
+
+/// The page with this number, which must fit 32 bits.
+fn page_numbered(page: Option<u64>) -> Asked
+    ensures { result ≡ page_numbered page }
+{
+    match page {
+        Some(page) if page <= LAST => Asked::Page(page as u32),
+        _ => Asked::NoNumber,
     }
 }
 

@@ -1,15 +1,16 @@
 ghost use Rattle.std.specs.Prelude.{◌≡◌, OnOk, IfOk, ◌++◌, codes};
 ghost use Rattle.http_server.specs.Response.{IsBlank, fields_of};
 ghost use Rattle.als_http.specs.Replies.{status_of, fields_for, own_fields, type_of, HasText};
-ghost use Rattle.als_http.specs.Replies.{Shows, fields_of_wrong};
+ghost use Rattle.als_http.specs.Replies.{Shows, fields_of_wrong, read_fields, tag_of};
 
 use crate::page_fields::{add_page_fields, console_type};
 use crate::query::Wrong;
 use crate::reply::Reply;
 use crate::wrong_text::wrong_text;
+use als_record::Lsn;
 use als_report::{
-    health_text, metrics_text, primary_flag_text, standby_flag_text, status_text, unread_text,
-    value_text,
+    health_text, many_text, metrics_text, primary_flag_text, standby_flag_text, status_text,
+    unread_text, value_text,
 };
 use bytes::Bytes;
 use http::{HeaderName, HeaderValue, StatusCode};
@@ -54,6 +55,7 @@ fn text_of(alloc: Global, reply: &Reply) -> Result<Vec<u8>, AllocError>
 {
     match reply {
         Reply::Value(answer) => value_text(alloc, answer),
+        Reply::Many(many) => many_text(alloc, many),
         Reply::Unread(why) => unread_text(alloc, *why),
         Reply::Status(report, commits) => status_text(alloc, report, *commits),
         Reply::Metrics(report, commits) => metrics_text(alloc, report, *commits),
@@ -83,15 +85,40 @@ fn add_own(alloc: Global, reply: &Reply, response: &mut Response) -> Result<(), 
     ensures body { OnOk result (response.new.body ≡ response.old.body) }
 {
     match reply {
-        Reply::Value(answer) => {
-            let lsn = HeaderValue::from_u64(alloc, answer.lsn.0)?;
-            response.add_header(HeaderName::from_static("als-lsn"), lsn)?;
-        }
+        Reply::Value(answer) => add_lsn(alloc, answer.lsn, response)?,
+        Reply::Many(many) => add_lsn(alloc, many.lsn, response)?,
         Reply::Console(_) => add_page_fields(response)?,
         Reply::Refused(why) => add_methods(*why, response)?,
         _ => {}
     }
     Ok(())
+}
+
+/// Adds the LSN of the last commit that is read, by which a client asks for no older answer, and by which
+/// it compares two answers.
+fn add_lsn(alloc: Global, lsn: Lsn, response: &mut Response) -> Result<(), AllocError>
+    ensures fields { OnOk result (fields_of response.new ≡ fields_of response.old ++ read_fields lsn) }
+    ensures body { OnOk result (response.new.body ≡ response.old.body) }
+{
+    let number = HeaderValue::from_u64(alloc, lsn.0)?;
+    response.add_header(HeaderName::from_static("als-lsn"), number)?;
+    response.add_header(HeaderName::from_static("etag"), tag_of(alloc, lsn)?)?;
+    Ok(())
+}
+
+/// An LSN as the tag of an answer: in quotes.
+fn tag_of(alloc: Global, lsn: Lsn) -> Result<HeaderValue, AllocError>
+    ensures { IfOk result (λ value. value.bytes ≡ tag_of lsn) }
+{
+    let digits = lsn.0.to_string(alloc)?;
+    let mut tag = Vec::new(alloc);
+    tag.push(b'"')?;
+    tag.extend_from_slice(digits.as_bytes())?;
+    tag.push(b'"')?;
+    match HeaderValue::from_vec(tag) {
+        Ok(value) => Ok(value),
+        Err(_) => Err(AllocError),
+    }
 }
 
 /// Adds the allowed methods, if the request had another one.
@@ -104,7 +131,10 @@ fn add_methods(why: Wrong, response: &mut Response) -> Result<(), AllocError>
         Wrong::Method => {
             response.add_header(HeaderName::from_static("allow"), methods())?;
         }
-        Wrong::Path | Wrong::Number | Wrong::Lsn | Wrong::Host => {}
+        Wrong::Read => {
+            response.add_header(HeaderName::from_static("allow"), post())?;
+        }
+        Wrong::Path | Wrong::Number | Wrong::Body | Wrong::Lsn | Wrong::Wait | Wrong::Host => {}
     }
     Ok(())
 }
@@ -114,6 +144,13 @@ fn methods() -> HeaderValue
     ensures { result.bytes ≡ codes "GET, HEAD" }
 {
     HeaderValue::from_static("GET, HEAD")
+}
+
+/// The method of a read whose body names keys.
+fn post() -> HeaderValue
+    ensures { result.bytes ≡ codes "POST" }
+{
+    HeaderValue::from_static("POST")
 }
 
 /// No cache may keep a response.

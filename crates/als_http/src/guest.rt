@@ -1,6 +1,6 @@
 use crate::limits::STILL;
-use crate::numbers::number;
 use crate::peer::is_late;
+use als_keys::number;
 use std::alloc::Global;
 use std::io;
 use std::io::{Read, Write};
@@ -14,7 +14,7 @@ const END: &[u8] = b"\r\n\r\n";
 const LENGTH: &[u8] = b"content-length:";
 
 /// What a request that reads begins with.
-const READS: [&[u8]; 2] = [b"GET ", b"HEAD "];
+const READS: [&[u8]; 3] = [b"GET ", b"HEAD ", b"POST /read "];
 
 /// A connection that no thread waits for: its stream does not block.
 pub(crate) struct Guest<T> {
@@ -90,7 +90,7 @@ impl<T> Guest<T> {
         }
     }
 
-    /// Whether its request reads: its method is GET or HEAD. No such request waits.
+    /// Whether its request reads: by GET or HEAD, or the keys that its body names. No such request waits.
     pub fn reads(&self) -> bool {
         READS.iter().any(|method| self.said.starts_with(method))
     }

@@ -15,7 +15,9 @@
 //! 4. No guest waits for the answer to another one, if its request reads. Requests that may wait stand in a
 //!    line, and one thread answers them; if it is full, they are refused at once.
 //! 5. One peer has at most one connection less than there are waiting threads, if there are several.
-//! 6. What a request is (`query_of`), what it is answered (`Reply`) and the response (`show`) make no system
+//! 6. A read that names how long it may wait (`Als-Wait`) is asked again by the thread of its connection,
+//!    with no lock and no place in a copy held meanwhile. A guest's does not wait.
+//! 7. What a request is (`query_of`), what it is answered (`Reply`) and the response (`show`) make no system
 //!    call, and are proved exactly. Times and sockets are tested.
 #![tactic(auto)]
 
@@ -28,8 +30,6 @@ mod asking;
 mod filling;
 // Which hosts a request may name.
 mod hosts;
-// Decimal numbers in a request.
-mod numbers;
 // The header fields of the page's texts.
 mod page_fields;
 // What a request asks for.
@@ -68,6 +68,8 @@ mod spare;
 mod turn;
 // The last answer of a connection says that it is.
 mod leaving;
+// A read that may wait is asked again.
+mod patient;
 
 pub use answering::Answering;
 pub use asked::Asked;
@@ -75,8 +77,7 @@ pub use asking::asked_by;
 pub use hosts::{Hosts, is_own};
 pub use limits::{MOST_THREADS, THREADS, config, config_with};
 pub use listening::listen;
-pub use numbers::number;
 pub use query::{Query, Wrong};
 pub use reply::Reply;
 pub use servers::Servers;
-pub use telling::{AT_LEAST, query_of};
+pub use telling::{AT_LEAST, WAIT, query_of};

@@ -15,11 +15,14 @@ pub(crate) const GUESTS: usize = 64;
 /// The most guests in the line of those whose requests may wait. If more come, they are refused.
 pub(crate) const LINE: usize = 64;
 
+/// The most bytes of the answer to a guest's read: so many the buffer of its socket takes.
+pub(crate) const ANSWER: usize = 32 * 1024;
+
 /// The most bytes of a request's head.
 const HEAD: usize = 7 * 1024;
 
-/// The most bytes of the body of a read. No read uses one.
-const BODY: usize = 1024;
+/// The most bytes of the body of a read: those of 600 keys, and some blanks.
+const BODY: usize = 16 * 1024;
 
 /// Milliseconds that each of eight threads sleeps if nobody wants to connect. More threads sleep longer, so
 /// that together they look as often as eight.
@@ -52,9 +55,9 @@ pub(crate) const LIFE: u64 = 60_000;
 /// back.
 pub(crate) const LEFTOVERS: usize = 16;
 
-/// The limits of a connection for reads: requests of 8 KB, head and body together.
+/// The limits of a connection for reads: requests of 23 KB, head and body together.
 pub fn config() -> Config
-    ensures { result.max_body_len ≡ 1024 }
+    ensures { result.max_body_len ≡ 16384 }
 {
     config_with(BODY)
 }

@@ -6,6 +6,10 @@ use als_record::{Key, Lsn};
 pub enum Query {
     /// The value of a key, in an answer whose LSN is at least this one.
     Value(Key, Lsn),
+    /// The values of all slots of a page, in such an answer.
+    Page(u32, Lsn),
+    /// The values of the keys that the body names, in such an answer.
+    Many(Lsn),
     Status,
     Metrics,
     Health,
@@ -25,10 +29,16 @@ pub enum Wrong {
     Path,
     /// Its method is neither GET nor HEAD.
     Method,
+    /// It reads the keys that its body names, and its method is not POST.
+    Read,
     /// A page or a slot is not a number of 32 bits.
     Number,
+    /// Its body names no keys, or too many.
+    Body,
     /// Its `Als-At-Least` is not a number of 64 bits, or is there twice.
     Lsn,
+    /// Its `Als-Wait` is not a number of at most 60, or is there twice.
+    Wait,
     /// Its `Host` is not one of the node's.
     Host,
 }

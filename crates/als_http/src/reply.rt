@@ -4,7 +4,7 @@ ghost use Rattle.als_http.specs.Replies.{status_of_flag};
 use crate::query::Wrong;
 use als_console::Text;
 use als_report::{Report, Unread};
-use als_view::Answer;
+use als_view::{Answer, Many};
 use http::StatusCode;
 
 /// The reply to a query.
@@ -12,6 +12,8 @@ use http::StatusCode;
 pub enum Reply {
     /// A key's value.
     Value(Answer),
+    /// The values of many keys.
+    Many(Many),
     /// Why a key was not read.
     Unread(Unread),
     /// The report of the node, and how many commits are published; None: no list of them is.
@@ -38,16 +40,18 @@ impl Reply {
         ensures { result ≡ status_of self.now }
     {
         match self {
-            Reply::Value(_) | Reply::Status(..) | Reply::Metrics(..) | Reply::Console(_) => {
-                StatusCode::OK
-            }
+            Reply::Value(_) | Reply::Many(_) => StatusCode::OK,
+            Reply::Status(..) | Reply::Metrics(..) | Reply::Console(_) => StatusCode::OK,
+            Reply::Unread(Unread::NoSuchKey) => StatusCode::NOT_FOUND,
             Reply::Unread(_) => StatusCode::SERVICE_UNAVAILABLE,
             Reply::Health(report, commits) => status_of_flag(report.is_healthy(*commits)),
             Reply::Primary(report) => status_of_flag(report.is_primary()),
             Reply::Standby(report, commits) => status_of_flag(report.is_standby(*commits)),
             Reply::Refused(Wrong::Path) => StatusCode::NOT_FOUND,
-            Reply::Refused(Wrong::Method) => StatusCode::METHOD_NOT_ALLOWED,
-            Reply::Refused(Wrong::Number | Wrong::Lsn) => StatusCode::BAD_REQUEST,
+            Reply::Refused(Wrong::Method | Wrong::Read) => StatusCode::METHOD_NOT_ALLOWED,
+            Reply::Refused(Wrong::Number | Wrong::Body | Wrong::Lsn | Wrong::Wait) => {
+                StatusCode::BAD_REQUEST
+            }
             Reply::Refused(Wrong::Host) => StatusCode::MISDIRECTED_REQUEST,
         }
     }

@@ -2,6 +2,7 @@ use crate::connections::{Connections, peer_of};
 use crate::leaving::Leaving;
 use crate::limits::{LEFTOVERS, RESPONSE, TICK};
 use crate::line::Line;
+use crate::patient::Patient;
 use crate::peer::{Peer, is_late};
 use crate::spare::{attend, welcome};
 use crate::terms::Terms;
@@ -85,7 +86,8 @@ fn serve_one<T: Read + Write + OpenStream + Drop, V: Service, C: Clock>(
     let mut writer = Peer::new(stream.try_clone()?, clock, connections, &turn, begun);
     let mut reader = Peer::new(stream, clock, connections, &turn, begun);
     let mut connection = Connection::new(alloc, terms.keys, terms.config);
-    let mut leaving = Leaving::new(service, &turn);
+    let mut patient = Patient::new(service, clock, connections);
+    let mut leaving = Leaving::new(&mut patient, &turn);
     match serve(&mut connection, &mut leaving, &mut reader, &mut writer) {
         Err(e) if turn.is_asking() && is_late(&e) => rest.write_all(LATE)?,
         ended => ended?,

@@ -1,6 +1,6 @@
 use crate::connections::Connections;
 use crate::guest::{Guest, Heard};
-use crate::limits::{GUESTS, NAP, REQUEST, request_len};
+use crate::limits::{ANSWER, GUESTS, NAP, REQUEST, request_len};
 use crate::line::Line;
 use crate::terms::Terms;
 use http_server::{Connection, Service, serve};
@@ -118,7 +118,7 @@ pub(crate) fn attend<T: Read + Write + OpenStream + Drop, V: Service, C: Wait>(
 }
 
 /// Answers the request of a guest, and returns the guest, unless it hung up. The response is short enough for
-/// the socket's buffer.
+/// the socket's buffer: a read of more is refused.
 pub(crate) fn answer<T: Read + Write + OpenStream + Drop, V: Service>(
     alloc: Global,
     guest: Guest<T>,
@@ -130,6 +130,9 @@ pub(crate) fn answer<T: Read + Write + OpenStream + Drop, V: Service>(
     let mut response = Vec::new(alloc);
     let mut request = guest.request();
     serve(&mut connection, service, &mut request, &mut response).ok()?;
+    if response.len() > ANSWER && guest.reads() {
+        return refuse(guest);
+    }
     guest.tell(response.as_slice()).ok()?;
     Some(guest)
 }

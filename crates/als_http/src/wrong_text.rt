@@ -20,11 +20,14 @@ fn why_wrong(why: Wrong) -> &'static str
 {
     match why {
         Wrong::Path =>
-            "no such path: /, /keys/P/S, /status, /metrics, /health, /primary, /standby, and /in-doubt of a primary",
+            "no such path: /, /keys/P/S, /keys/P, /read, /status, /metrics, /health, /primary, /standby, and /in-doubt of a primary",
         Wrong::Method =>
-            "GET and HEAD are answered, and POST of /commit, /prepare and /decide by a primary",
+            "GET and HEAD are answered, POST of /read, and POST of /commit, /prepare and /decide by a primary",
+        Wrong::Read => "keys that a body names are read by POST",
         Wrong::Number => "a page and a slot are decimal numbers below 2^32",
+        Wrong::Body => "a body names keys: {\"keys\":[[P,S],..]}, at most 600 of them",
         Wrong::Lsn => "Als-At-Least is one decimal number below 2^64",
+        Wrong::Wait => "Als-Wait is one decimal number of seconds, at most 60",
         Wrong::Host => "this node has no such host: localhost, 127.0.0.1, [::1]",
     }
 }

@@ -1,16 +1,17 @@
 -- The JSON texts of replies, as tokens.
-use Rattle.std.specs.Prelude.{ℕ, Bool, List, [], ◌∷◌, ◌++◌, codes, decimal, Option, Some, None, if◌then◌else◌}
-use Rattle.json.specs.Token.{Token, begin_object, end_object, key, string, number, boolean, null}
+use Rattle.std.specs.Prelude.{ℕ, Bool, List, [], ◌∷◌, ◌++◌, map, codes, decimal, Option, Some, None, if◌then◌else◌}
+use Rattle.json.specs.Token.{Token, begin_object, end_object, begin_array, end_array, key, string, number, boolean, null}
 use Rattle.hex.specs.Hex.{encode_lower}
 use Rattle.als_record.specs.Spelling.{Image}
 use Rattle.als_view.specs.declared.answer.Answer.{Answer}
+use Rattle.als_view.specs.declared.many.Many.{Many}
 use Rattle.als_report.specs.States.{name_of_state}
 use Rattle.als_report.specs.Health.{room_of, takeovers_left, transactions_left, takes_commits}
 use Rattle.als_report.specs.Followers.{primary_tokens, number_tokens}
 use Rattle.als_report.specs.declared.refusals.Refusals.{Refusals}
 use Rattle.als_report.specs.declared.report.Report.{Report}
 use Rattle.als_report.specs.declared.unread.Unread.{Unread}
-use Rattle.als_report.specs.declared.unread.Unread.TheVariants.{Warming, Stopped, Older}
+use Rattle.als_report.specs.declared.unread.Unread.TheVariants.{Warming, Stopped, Older, NoSuchKey, Memory}
 
 -- an image in lower case hexadecimal
 abbrev pub image_token : Image → Token
@@ -30,6 +31,16 @@ abbrev pub value_tokens : Answer → List Token
 value_tokens a =
     begin_object ∷ key (codes "value") ∷ image_token a.value ∷ key (codes "commits") ∷ number (decimal a.commits)
     ∷ key (codes "lsn") ∷ number (decimal a.lsn.0) ∷ end_object ∷ []
+
+-- the images of keys, in their order
+abbrev pub images_tokens : List Image → List Token
+images_tokens images = (key (codes "values") ∷ begin_array ∷ []) ++ (map image_token images ++ (end_array ∷ []))
+
+-- an answer of many keys: their values in order, and what all of them are of
+abbrev pub many_tokens : Many → List Token
+many_tokens m =
+    (begin_object ∷ []) ++ (images_tokens m.images.items ++ (member_tokens (codes "commits") (Some m.commits)
+    ++ (member_tokens (codes "lsn") (Some m.lsn.0) ++ (end_object ∷ []))))
 
 -- the state, and how far the log goes
 abbrev pub log_tokens : Report → List Token
@@ -90,3 +101,5 @@ abbrev pub why_unread : Unread → List ℕ
 why_unread Warming = codes "35 Warming: no commits are published yet"
 why_unread Stopped = codes "31 Stopped: the view has ended"
 why_unread (Older lsn) = codes "the commit that Als-At-Least names is not published yet"
+why_unread NoSuchKey = codes "the database has no such page or slot"
+why_unread Memory = codes "no memory for the values"

@@ -21,6 +21,8 @@ fn why_unread(why: Unread) -> &'static str
         Unread::Warming => "35 Warming: no commits are published yet",
         Unread::Stopped => "31 Stopped: the view has ended",
         Unread::Older(_) => "the commit that Als-At-Least names is not published yet",
+        Unread::NoSuchKey => "the database has no such page or slot",
+        Unread::Memory => "no memory for the values",
     }
 }
 

@@ -3,6 +3,7 @@
 //! ```text
 //!     session --set_*, note_*--> Board (cells) --Watch--> Report --status_text, metrics_text, health_text-->
 //!     view ----------------------------------> Reader --read--> Answer or Unread --value_text, unread_text-->
+//!                                                     --read_many--> Many --many_text-->
 //! ```
 //!
 //! 1. A board is cells: the session stores, threads that report load, and nobody waits for anybody.
@@ -28,13 +29,16 @@ mod state;
 mod refusals;
 mod work;
 mod work_cells;
-// A key is read, and how many commits are published; why it is not read.
+// A key is read, and how many commits are published; many keys are; why one is not.
 mod reading;
+mod reading_many;
 mod unread;
 // Members of a JSON object.
 mod members;
-// Texts in JSON: of errors, of what a primary reports beside, of a report, of a key's value.
+// Texts in JSON: of errors, of many keys' values, of what a primary reports beside, of a report, of a key's
+// value.
 mod errors;
+mod many;
 mod primary_text;
 mod report_text;
 mod values;
@@ -46,8 +50,10 @@ pub use board::{Board, Watch};
 pub use errors::{error_text, unread_text};
 pub use follower::Follower;
 pub use follower_row::FollowerRow;
+pub use many::many_text;
 pub use metrics::{VERSION, metrics_text};
 pub use reading::{published, read};
+pub use reading_many::read_many;
 pub use refusals::Refusals;
 pub use report::{
     MOST_FOLLOWERS, MOST_IN_DOUBT, MOST_TAKEOVERS, MOST_TRANSACTIONS, PATIENCE, QUIET, Report,

@@ -1,5 +1,6 @@
 ghost use Rattle.std.specs.Prelude.{◌≡◌, IfOk, IfErr, IfSome, Some};
 ghost use Rattle.als_view.specs.Entries.{Begins};
+ghost use Rattle.als_view.specs.Many.{is_key};
 ghost use Rattle.als_view.specs.Views.{known_to, pages_of, IsSameReader};
 ghost use Rattle.als_report.specs.Reading.{IsRead, IsUnread, count_in};
 
@@ -14,13 +15,17 @@ pub fn read(reader: &mut Reader, key: Key, at_least: Lsn) -> Result<Answer, Unre
     ensures later { Begins (known_to reader.old) (known_to reader.new) }
     // A client that names the LSN of an earlier answer never gets an older one.
     ensures answer { IfOk result (IsRead (pages_of reader.old) key (known_to reader.new) at_least) }
-    ensures refusal { IfErr result (IsUnread (known_to reader.old) (known_to reader.new) at_least) }
+    ensures refusal { IfErr result (IsUnread (is_key (pages_of reader.old) key)
+        (known_to reader.old) (known_to reader.new) at_least) }
 {
     match reader.get(key) {
         Ok(answer) => {
             let lsn = answer.lsn;
             if lsn.0 < at_least.0 {
                 return Err(Unread::Older(lsn));
+            }
+            if !reader.has(key) {
+                return Err(Unread::NoSuchKey);
             }
             Ok(answer)
         }

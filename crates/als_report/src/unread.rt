@@ -9,4 +9,8 @@ pub enum Unread {
     Stopped,
     /// The last published commit has this LSN, which is below the one asked for.
     Older(Lsn),
+    /// The database has no such page or slot.
+    NoSuchKey,
+    /// There is no memory for the values.
+    Memory,
 }

@@ -33,13 +33,23 @@ fn write_value(alloc: Global, text: &mut Writer, answer: &Answer) -> Result<(), 
     Ok(())
 }
 
-/// Writes an image in lower case hexadecimal, or null.
+/// Writes the value of a key, as a member of an object.
 fn image(alloc: Global, text: &mut Writer, image: &Image) -> Result<(), AllocError>
     ensures tokens { OnOk result
         (text.new.tokens ≡ text.old.tokens ++ key (codes "value") ∷ image_token image.now ∷ []) }
     ensures before { OnOk result (text.new.before ≡ text.old.before) }
 {
     text.key("value")?;
+    bare_image(alloc, text, image)?;
+    Ok(())
+}
+
+/// Writes an image in lower case hexadecimal, or null.
+pub(crate) fn bare_image(alloc: Global, text: &mut Writer, image: &Image) -> Result<(), AllocError>
+    ensures tokens { OnOk result
+        (text.new.tokens ≡ text.old.tokens ++ image_token image.now ∷ []) }
+    ensures before { OnOk result (text.new.before ≡ text.old.before) }
+{
     match image {
         Some(bytes) => {
             let digits = hex::encode(alloc, bytes.as_slice())?;

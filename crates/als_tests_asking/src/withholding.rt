@@ -61,6 +61,15 @@ fn commits_are_read_once_they_are_confirmed(rt: HostRuntime) -> Result<(), Fail>
             "HTTP/1.1 404 ",
         ),
         (
+            "GET /keys/1 HTTP/1.1\r\nHost: localhost\r\n\r\n",
+            "HTTP/1.1 404 ",
+        ),
+        (
+            "POST /read HTTP/1.1\r\nHost: localhost\r\nContent-Length: 16\r\n\r\n\
+            {\"keys\":[[1,3]]}",
+            "HTTP/1.1 404 ",
+        ),
+        (
             "GET /in-doubt HTTP/1.1\r\nHost: localhost\r\n\r\n",
             "HTTP/1.1 200 ",
         ),

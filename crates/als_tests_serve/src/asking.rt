@@ -169,11 +169,16 @@ pub fn begins<S: Reports>(
 }
 
 const KEY: &str = "HTTP/1.1 200 OK\r\ncontent-type: application/json\r\ncache-control: no-store\r\n\
-    als-lsn: 52\r\ncontent-length: 35\r\n\r\n{\"value\":\"ab\",\"commits\":1,\"lsn\":52}";
+    als-lsn: 52\r\netag: \"52\"\r\ncontent-length: 35\r\n\r\n{\"value\":\"ab\",\"commits\":1,\"lsn\":52}";
 
 const NOTHING: &str =
     "HTTP/1.1 200 OK\r\ncontent-type: application/json\r\ncache-control: no-store\r\n\
-    als-lsn: 52\r\ncontent-length: 35\r\n\r\n{\"value\":null,\"commits\":1,\"lsn\":52}";
+    als-lsn: 52\r\netag: \"52\"\r\ncontent-length: 35\r\n\r\n{\"value\":null,\"commits\":1,\"lsn\":52}";
+
+/// What is answered of a key that the database has not.
+pub const NO_SUCH_KEY: &str =
+    "HTTP/1.1 404 Not Found\r\ncontent-type: application/json\r\ncache-control: no-store\r\n\
+    content-length: 49\r\n\r\n{\"error\":\"the database has no such page or slot\"}";
 
 const STATUS: &str =
     "HTTP/1.1 200 OK\r\ncontent-type: application/json\r\ncache-control: no-store\r\n\
@@ -195,11 +200,11 @@ fn each_path_is_answered(rt: HostRuntime) -> Result<(), Fail> {
             KEY,
         ),
         ("GET /keys/0/3 HTTP/1.1\r\nHost: a\r\n\r\n", NOTHING),
-        ("GET /keys/2/0 HTTP/1.1\r\nHost: a\r\n\r\n", NOTHING),
-        ("GET /keys/1/15 HTTP/1.1\r\nHost: a\r\n\r\n", NOTHING),
+        ("GET /keys/2/0 HTTP/1.1\r\nHost: a\r\n\r\n", NO_SUCH_KEY),
+        ("GET /keys/1/15 HTTP/1.1\r\nHost: a\r\n\r\n", NO_SUCH_KEY),
         (
             "GET /keys/4294967295/4294967295 HTTP/1.1\r\nHost: a\r\n\r\n",
-            NOTHING,
+            NO_SUCH_KEY,
         ),
         ("GET /status HTTP/1.1\r\nHost: a\r\n\r\n", STATUS),
     ];
@@ -238,7 +243,6 @@ fn each_refusal_is_answered(rt: HostRuntime) -> Result<(), Fail> {
             "GET /keys/1/4294967296 HTTP/1.1\r\nHost: a\r\n\r\n",
             "HTTP/1.1 400 ",
         ),
-        ("GET /keys/1 HTTP/1.1\r\nHost: a\r\n\r\n", "HTTP/1.1 404 "),
         (
             "GET /index.html HTTP/1.1\r\nHost: a\r\n\r\n",
             "HTTP/1.1 404 ",
@@ -434,7 +438,7 @@ fn a_host_of_another_node_is_misdirected(rt: HostRuntime) -> Result<(), Fail> {
 }
 
 #[test]
-fn a_request_has_at_most_eight_kilobytes(rt: HostRuntime) -> Result<(), Fail> {
+fn a_head_has_at_most_seven_kilobytes(rt: HostRuntime) -> Result<(), Fail> {
     let alloc = rt.alloc();
     let keys = RandomState::new(&rt)?;
     let (log, mut readers) = published(&rt, alloc, 1).ok_or("memory")?;

@@ -4,6 +4,9 @@
 // Requests over bytes in memory.
 #[cfg(test)]
 mod asking;
+// Reads of many keys.
+#[cfg(test)]
+mod reads;
 // What a session tells of its standby.
 #[cfg(test)]
 mod boards;

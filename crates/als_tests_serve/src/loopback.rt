@@ -113,6 +113,55 @@ fn two_threads_answer_beside_a_publisher(rt: HostRuntime) -> Result<(), Fail> {
     Ok(())
 }
 
+/// Publishes all commits after a while.
+fn publish_late<R: Clock + Wait>(rt: &R, alloc: Global, log: &mut PublishedLog) -> bool {
+    thread::sleep(rt, Duration::from_millis(300));
+    publish_all(rt, alloc, log)
+}
+
+/// The commit that is published late is read by who waits for it.
+const WAITS: &str = "GET /keys/0 HTTP/1.1\r\nHost: localhost\r\nConnection: close\r\n\
+    Als-At-Least: 52\r\nAls-Wait: 20\r\n\r\n";
+
+/// Who does not wait is refused at once, and so is who would wait for too long.
+const REFUSED: [(&str, &str); 2] = [
+    (
+        "GET /keys/0 HTTP/1.1\r\nHost: localhost\r\nConnection: close\r\n\
+        Als-At-Least: 52\r\n\r\n",
+        "HTTP/1.1 503 ",
+    ),
+    (
+        "GET /keys/0 HTTP/1.1\r\nHost: localhost\r\nConnection: close\r\n\
+        Als-At-Least: 52\r\nAls-Wait: 61\r\n\r\n",
+        "HTTP/1.1 400 ",
+    ),
+];
+
+#[test]
+fn a_read_waits_for_what_it_names(rt: HostRuntime) -> Result<(), Fail> {
+    let alloc = rt.alloc();
+    let (mut log, readers) = PublishedLog::new(alloc, &rt, 2, 2)?;
+    let seats = seats(alloc, &rt, readers).ok_or("seats")?;
+    let listener = listen(&rt, alloc, "0")?;
+    let at = listener.local_addr()?;
+    let servers = Servers::start(&rt, alloc, &listener, seats)?;
+    for (request, front) in REFUSED {
+        let text = asked(&rt, at, request)?;
+        assert!(rt; text.as_str().starts_with(front), "{request}");
+    }
+    let (written, text) = join(
+        &rt,
+        || publish_late(&rt, alloc, &mut log),
+        || asked(&rt, at, WAITS),
+    );
+    servers.close(&rt);
+    log.close(&rt);
+    assert!(rt; written);
+    let text = text?;
+    assert!(rt; text.as_str().starts_with("HTTP/1.1 200 "));
+    Ok(())
+}
+
 #[test]
 fn a_silent_peer_gives_way(rt: HostRuntime) -> Result<(), Fail> {
     let alloc = rt.alloc();

@@ -7,6 +7,9 @@ mod publisher;
 // What is given back where a view ends.
 #[cfg(test)]
 mod ending;
+// Many keys of one front.
+#[cfg(test)]
+mod many;
 // What a log shows.
 #[cfg(test)]
 mod showing;

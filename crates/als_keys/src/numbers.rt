@@ -1,5 +1,5 @@
 ghost use Rattle.std.specs.Prelude.{◌≡◌};
-ghost use Rattle.als_http.specs.Numbers.{with_digit, number_of};
+ghost use Rattle.als_keys.specs.Numbers.{with_digit, number_of};
 
 /// The number that these decimal digits spell. None: there is no digit, another byte is among them, or the
 /// number does not fit 64 bits.
