@@ -153,14 +153,13 @@ impl<R: Wait + Clock, O: Oath<Work, Answer>, J: Naming> Clients for Desk<'_, R, 
     }
 
     fn tell(&mut self, asked: Asked, answer: Answer) -> Result<(), Fault> {
-        self.account.tell(&asked, again(&answer));
         self.group
             .tell(now_of(self.rt), is_committed(&asked.work, &answer));
         note_refusal(&self.board, &answer);
         note_number(&self.board, &answer);
-        // Each seat that was handed out is the number of a place.
-        if let Some(place) = Place::of(asked.seat) {
-            self.leader.tell(self.rt, place, answer);
+        match self.waiting.pop_front() {
+            Some(taken) => self.put(taken, answer),
+            None => unreachable!(),
         }
         Ok(())
     }
