@@ -1,0 +1,3 @@
+pub mod Outcomes
+pub mod Telling
+pub mod Waiting

@@ -3,3 +3,4 @@ pub mod Fates
 pub mod Guards
 pub mod Others
 pub mod Ranges
+pub mod Telling

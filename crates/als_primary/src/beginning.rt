@@ -11,11 +11,11 @@ use als_http::{Hosts, Servers, config_with};
 use als_lead::Answer;
 use als_operate::Fault;
 use als_report::{Board, State};
-use als_seats::{Leader, seats};
+use als_tickets::{Leader, Naming, Oath, Opened, seats};
 use als_writer::Work;
 use std::alloc::{AllocError, Global};
 use std::fs::File;
-use std::net::TcpListener;
+use std::net::{SocketAddr, TcpListener};
 use std::random::RandomSource;
 use std::rt::Files;
 use std::sync::{Arc, Wait};
@@ -32,31 +32,54 @@ const BODY: usize = 262_144;
 const BLOCK: u64 = 512;
 
 /// The threads that serve requests, and what they share with the leader.
-pub(crate) struct Begun {
+pub(crate) struct Begun<O: Oath<Work, Answer>, J: Naming> {
     pub board: Arc<Board, Global>,
     pub doubts: Arc<Doubts, Global>,
     pub shown: Arc<Shown, Global>,
-    pub leader: Leader<Work, Answer>,
+    pub leader: Leader<Work, Answer, O, J>,
     pub servers: Servers,
 }
 
-/// Starts the threads that serve requests, each with a seat of its own.
+/// By what requests come in and at which address, who may commit, and what answers reads.
+#[derive(Drop)]
+pub(crate) struct Entrance<'a> {
+    pub listener: &'a TcpListener,
+    pub addr: SocketAddr,
+    pub guard: Guard,
+    pub readers: Vec<Reader>,
+}
+
+/// Starts the threads that serve requests, each with a seat of its own, by the name of a book with no
+/// question.
 pub(crate) fn begin<
+    O: Oath<Work, Answer> + Send + Sync + 'static,
+    J: Naming + Send + Sync + 'static,
     R: AllocGlobal + Threads + Wait + Clock + RandomSource + Clone + Send + Drop + 'static,
     E: Events,
 >(
     rt: &R,
+    opened: Opened<Work>,
     engine: &E,
     capacity: Option<u64>,
-    readers: Vec<Reader>,
-    listener: &TcpListener,
-    guard: Guard,
+    entrance: Entrance<'_>,
     serving: Serving<'_>,
-) -> Result<Begun, Fault> {
+) -> Result<Begun<O, J>, Fault>
+    requires book { opened.seen.book ≡ J.book }
+{
     let alloc = rt.alloc();
+    let Entrance {
+        listener,
+        addr: _,
+        guard,
+        readers,
+    } = entrance;
     let board = board_of(alloc, engine, capacity, serving.sync)?;
     let (doubts, shown) = shared(alloc, serving.sync)?;
-    let (leader, askers) = seats(alloc, seats_of(serving.connections))?;
+    let (leader, askers) = seats::<Work, Answer, O, J>(
+        alloc,
+        seats_of(serving.connections),
+        opened,
+    )?;
     let common = Common {
         rt,
         alloc,

@@ -4,23 +4,24 @@ ghost use Rattle.als_primary.specs.Fates.{fate_of};
 use crate::doubts::Doubts;
 use als_asking::{Commits, Doubt, Outcome as Fate};
 use als_lead::Answer;
-use als_seats::{Asker, Outcome};
+use als_seats::Outcome;
+use als_tickets::{Asker, Naming, Oath};
 use als_writer::Work;
 use std::alloc::Global;
 use std::sync::{Arc, Wait};
 use std::time::{Clock, Duration};
 
 /// The way of a serving thread to the leader, by a seat of its own.
-pub(crate) struct Chair<R> {
+pub(crate) struct Chair<R, O: Oath<Work, Answer>, J: Naming> {
     rt: R,
     alloc: Global,
-    asker: Asker<Work, Answer>,
+    asker: Asker<Work, Answer, O, J>,
     doubts: Arc<Doubts, Global>,
     /// How long a piece of work may wait until it is begun.
     patience: Duration,
 }
 
-impl<R: Drop> Drop for Chair<R> {
+impl<R: Drop, O: Oath<Work, Answer>, J: Naming> Drop for Chair<R, O, J> {
     fn drop(self) {
         let Chair {
             rt,
@@ -35,15 +36,15 @@ impl<R: Drop> Drop for Chair<R> {
     }
 }
 
-impl<R: Wait + Clock> Chair<R> {
+impl<R: Wait + Clock, O: Oath<Work, Answer>, J: Naming> Chair<R, O, J> {
     /// The way by this asker's seat.
     pub fn new(
         rt: R,
         alloc: Global,
-        asker: Asker<Work, Answer>,
+        asker: Asker<Work, Answer, O, J>,
         doubts: Arc<Doubts, Global>,
         patience: Duration,
-    ) -> Chair<R> {
+    ) -> Chair<R, O, J> {
         Chair {
             rt,
             alloc,
@@ -54,11 +55,11 @@ impl<R: Wait + Clock> Chair<R> {
     }
 }
 
-impl<R: Wait + Clock> Commits for Chair<R> {
-    ghost use Rattle.std.specs.Prelude.{◌≤◌, length};
+impl<R: Wait + Clock, O: Oath<Work, Answer>, J: Naming> Commits for Chair<R, O, J> {
+    ghost use Rattle.als_primary.specs.Fates.{AreFates};
 
-    // No work has two outcomes.
-    ghost commits = { λ old asked outcomes new. length outcomes ≤ length asked };
+    // No work has two outcomes. Each one may be told of the work at its place.
+    ghost commits = { λ old asked outcomes new. AreFates O.may_tell asked outcomes };
 
     ghost doubts = { λ chair found. Unit {0} };
 
@@ -72,7 +73,7 @@ impl<R: Wait + Clock> Commits for Chair<R> {
             return fates;
         };
         for outcome in outcomes {
-            if fates.len() >= count || fates.push(fate_of(outcome)).is_err() {
+            if fates.push(fate_of(outcome)).is_err() {
                 break;
             }
         }

@@ -1,8 +1,7 @@
 use crate::announcing::Announces;
 use crate::others::Others;
 use crate::serving::Serving;
-use als_disk::FileDisk;
-use als_engine::{Engine, Events, Fault as EngineFault};
+use als_engine::{Events, Fault as EngineFault};
 use als_folder::Folder;
 use als_followers::{Allowed, Block, Followers, NodeSource, Terms};
 use als_operate::{Fault, silence};
@@ -53,11 +52,12 @@ pub(crate) fn follow<
         + Sync
         + Drop
         + 'static,
+    E: Events,
     P: Announces,
 >(
     rt: &R,
     folder: &Folder,
-    engine: &Engine<FileDisk>,
+    engine: &E,
     others: &Others<'_, R>,
     listener: Option<TcpListener>,
     serving: Serving<'_>,

@@ -14,7 +14,9 @@
 //! 4. Followers are sent the log below what is forced, each in a session of its own. With `sync` above 0
 //!    a group is published and answered once that many of different folders have acknowledged it. So is
 //!    the log with which the primary began: before that no request reads a key, or what is in doubt.
-//! 5. However the leader ends, what was not begun is answered so, what the engine has is put on the
+//! 5. What a thread is answered may be told of its own work (`IsPromised` of `specs/Telling.antt`): als_tickets
+//!    carries that through the seats' locks.
+//! 6. However the leader ends, what was not begun is answered so, what the engine has is put on the
 //!    devices, and each thread is joined.
 #![tactic(auto)]
 

@@ -1,11 +1,13 @@
-ghost use Rattle.std.specs.Prelude.{◌≡◌, Err};
+ghost use Rattle.std.specs.Prelude.{◌≡◌, [], Err};
+ghost use Rattle.als_primary.specs.Others.{blocks_of};
+ghost use Rattle.als_primary.specs.Telling.{told_of, OwesTo, OwesOnly};
 ghost use Rattle.als_primary.specs.Ranges.{AreInRange};
 ghost use Rattle.als_primary.specs.declared.refusal.Refusal.TheVariants.{Ended};
 ghost use Rattle.als_operate.specs.declared.fault.Fault.TheVariants.{Refused};
 ghost use Rattle.als_engine.specs.declared.fault.Fault.TheVariants.{BadConfig};
 
 use crate::announcing::Announces;
-use crate::beginning::{Begun, begin, capacity_of};
+use crate::beginning::{Begun, Entrance, begin, capacity_of};
 use crate::delay::Delay;
 use crate::desk::Desk;
 use crate::following::{Shipping, allowed_of, follow};
@@ -16,16 +18,19 @@ use crate::refusal::Refusal;
 use crate::serving::Serving;
 use crate::token::read_token;
 use crate::watching::{Watching, moments_of};
-use als_disk::FileDisk;
 use als_drive::Progress;
-use als_engine::{Engine, Events};
+use als_engine::Writes;
 use als_folder::{Folder, NameWatch};
 use als_followers::Allowed;
 use als_http::listen;
-use als_lead::{Database, Limits, Primary, PrimaryUpkeep, lead, open};
+use als_lead::{Answer, Database, Limits, Primary, PrimaryUpkeep, lead, open};
 use als_operate::{Fault, NearlyFull, named, settle};
 use als_report::State;
+use als_tickets::{Naming, Oath, Opened};
+use als_writer::Work;
+use std::alloc::Global;
 use std::fs::File;
+use std::marker::Brand;
 use std::net::{Net, TcpListener, TcpStream};
 use std::random::RandomSource;
 use std::rt::Files;
@@ -102,23 +107,20 @@ fn serve<
         mut engine,
         readers,
     } = open(rt, database_of(serving), lines)?;
-    let capacity = capacity_of(rt, &folder);
     let names = names_of(rt, &folder)?;
-    let begun = begin(rt, &engine, capacity, readers, &listener, guard, serving)?;
-    lines.serves(
-        serving.dir,
+    let entrance = Entrance {
+        listener: &listener,
         addr,
-        engine.history().epoch(),
-        engine.status().end,
-    );
+        guard,
+        readers,
+    };
     match stand(
         rt,
         &folder,
         &mut engine,
         &names,
-        begun,
+        entrance,
         shipping,
-        capacity,
         serving,
         lines,
     ) {
@@ -177,22 +179,76 @@ fn stand<
         + Wait
         + Sync
         + Clock
+        + RandomSource
         + Clone
         + Send
         + Drop
         + 'static,
+    E: Writes,
     P: Announces,
 >(
     rt: &R,
     folder: &Folder,
-    engine: &mut Engine<FileDisk>,
+    engine: &mut E,
     names: &NameWatch,
-    begun: Begun,
+    entrance: Entrance<'_>,
     shipping: Shipping,
-    capacity: Option<u64>,
     serving: Serving<'_>,
     lines: &mut P,
 ) -> Result<(), Fault> {
+    // Whatever is true of an engine that goes on from this one, and is confirmed, may be told.
+    stand_as::<Brand, Brand, R, E, P>(
+        rt,
+        Opened::new(),
+        folder,
+        engine,
+        names,
+        entrance,
+        shipping,
+        serving,
+        lines,
+    )
+}
+
+/// The same, where all that is true and confirmed may be told. Nothing else is.
+fn stand_as<
+    O: Oath<Work, Answer> + Send + Sync + 'static,
+    J: Naming + Send + Sync + 'static,
+    R: AllocGlobal
+        + Files<File = File>
+        + Threads
+        + Wait
+        + Sync
+        + Clock
+        + RandomSource
+        + Clone
+        + Send
+        + Drop
+        + 'static,
+    E: Writes,
+    P: Announces,
+>(
+    rt: &R,
+    opened: Opened<Work>,
+    folder: &Folder,
+    engine: &mut E,
+    names: &NameWatch,
+    entrance: Entrance<'_>,
+    shipping: Shipping,
+    serving: Serving<'_>,
+    lines: &mut P,
+) -> Result<(), Fault>
+    requires book { opened.seen.book ≡ J.book }
+    requires owed { OwesTo E.alone E.machine engine.old shipping.allowed.blocks.items serving.sync
+        O.may_tell }
+    requires only { OwesOnly E.alone E.machine engine.old shipping.allowed.blocks.items
+        serving.sync O.may_tell }
+{
+    let capacity = capacity_of(rt, folder);
+    let addr = entrance.addr;
+    let begun = begin::<O, J, R, E>(rt, opened, &*engine, capacity, entrance, serving)?;
+    let status = engine.status();
+    lines.serves(serving.dir, addr, engine.history().epoch(), status.end);
     let Begun {
         board,
         doubts,
@@ -202,11 +258,11 @@ fn stand<
     } = begun;
     let reported = Arc::try_clone(&board)?;
     let noted = Arc::try_clone(&doubts)?;
-    let status = engine.status();
     board.set_sync(u64::from(serving.sync));
+    let mut desk = Desk::new(rt, rt.alloc(), GROUP.transactions, reported, noted, leader)?;
     let Shipping { listener, allowed } = shipping;
     let others = Others::new(rt, rt.alloc(), serving.sync, allowed, status.acknowledged)?;
-    let followers = follow(rt, folder, engine, &others, listener, serving, lines)?;
+    let followers = follow(rt, folder, &*engine, &others, listener, serving, lines)?;
     let mut watching = Watching {
         upkeep: PrimaryUpkeep::new(rt, CHECKPOINT_BYTES, status.end),
         board: &*board,
@@ -224,8 +280,7 @@ fn stand<
         short: 0,
         undone: 0,
     };
-    let mut desk = Desk::new(rt, reported, noted, leader);
-    let led = lead(rt.alloc(), engine, &mut desk, &mut watching, GROUP);
+    let led = lead_as(rt.alloc(), engine, &mut desk, &mut watching);
     drop(watching);
     board.set_state(State::Stopped);
     desk.end();
@@ -235,4 +290,25 @@ fn stand<
     servers.close(rt);
     let settled = settle(engine);
     led.and(settled)
+}
+
+/// Leads until something fails, where all that this upkeep's followers have acknowledged may be told.
+fn lead_as<
+    O: Oath<Work, Answer>,
+    J: Naming,
+    R: Wait + Clock + Files<File = File> + Drop,
+    E: Writes,
+    A: Announces,
+>(
+    alloc: Global,
+    engine: &mut E,
+    desk: &mut Desk<'_, R, O, J>,
+    watching: &mut Watching<'_, R, A>,
+) -> Result<(), Fault>
+    requires told { told_of desk.old.account ≡ [] }
+    requires waiting { desk.old.waiting.items ≡ [] }
+    requires owed { OwesTo E.alone E.machine engine.old
+        (blocks_of watching.old.others.quorum.value) watching.old.others.count O.may_tell }
+{
+    lead(alloc, engine, desk, watching, GROUP)
 }

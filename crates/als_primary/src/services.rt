@@ -8,7 +8,7 @@ use als_engine::Reader;
 use als_http::{Answering, Hosts};
 use als_lead::Answer;
 use als_report::{Board, Watch};
-use als_seats::Asker;
+use als_tickets::{Asker, Naming, Oath};
 use als_writer::Work;
 use std::alloc::{AllocError, Global};
 use std::sync::{Arc, Mutex, Wait};
@@ -18,7 +18,7 @@ use std::time::{Clock, Duration};
 type Reads<R> = Answering<Watch<R>>;
 
 /// The service of a thread.
-pub(crate) type Service<R> = Withheld<Asking<Chair<R>, Lent<Reads<R>, R>>>;
+pub(crate) type Service<R, O, J> = Withheld<Asking<Chair<R, O, J>, Lent<Reads<R>, R>>>;
 
 /// What the services of all threads have in common.
 #[derive(Drop)]
@@ -36,11 +36,11 @@ pub(crate) struct Common<'a, R> {
 
 impl<R: Wait + Clock + Clone + Drop> Common<'_, R> {
     /// A service for each asker, with its clock. Several services share a reader.
-    pub fn services(
+    pub fn services<O: Oath<Work, Answer>, J: Naming>(
         &self,
-        askers: Vec<Asker<Work, Answer>>,
+        askers: Vec<Asker<Work, Answer, O, J>>,
         readers: Vec<Reader>,
-    ) -> Result<Vec<(Service<R>, R)>, AllocError> {
+    ) -> Result<Vec<(Service<R, O, J>, R)>, AllocError> {
         let shared = self.share(readers)?;
         let mut services = Vec::with_capacity(self.alloc, askers.len())?;
         for asker in askers {
@@ -67,11 +67,11 @@ impl<R: Wait + Clock + Clone + Drop> Common<'_, R> {
     }
 
     /// The service of an asker.
-    fn service(
+    fn service<O: Oath<Work, Answer>, J: Naming>(
         &self,
-        asker: Asker<Work, Answer>,
+        asker: Asker<Work, Answer, O, J>,
         reads: Arc<Mutex<Reads<R>>, Global>,
-    ) -> Result<Service<R>, AllocError> {
+    ) -> Result<Service<R, O, J>, AllocError> {
         let doubts = Arc::try_clone(self.doubts)?;
         let chair = Chair::new(self.rt.clone()?, self.alloc, asker, doubts, self.patience);
         let lent = Lent::new(self.rt.clone()?, reads);
