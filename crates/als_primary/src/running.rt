@@ -11,6 +11,7 @@ use crate::desk::Desk;
 use crate::following::{Shipping, allowed_of, follow};
 use crate::guarding::guard_of;
 use crate::others::Others;
+use crate::pulse::Pulse;
 use crate::ranges::check_numbers;
 use crate::refusal::Refusal;
 use crate::serving::Serving;
@@ -220,6 +221,7 @@ fn stand<
         others,
         moments: moments_of(serving.commit_timeout),
         delay: Delay::NONE,
+        pulse: Pulse::NONE,
         followers: followers.as_ref(),
         short: 0,
         undone: 0,
