@@ -221,7 +221,7 @@ fn stand<
         others,
         moments: moments_of(serving.commit_timeout),
         delay: Delay::NONE,
-        pulse: Pulse::NONE,
+        pulse: Pulse::within(serving.read_for),
         followers: followers.as_ref(),
         short: 0,
         undone: 0,
