@@ -3,8 +3,8 @@
 pub const ABOUT: &str =
     "A hot standby that redoes the log which its primary ships (ARIES, continuous redo).";
 
-/// What `--version` prints behind the program's name. The kit is the one that proved the program.
-pub const VERSION: &str = "0.2.0, proved with rattle-kit-13f";
+/// What `--version` prints behind the program's name.
+pub const VERSION: &str = "0.2.0";
 
 pub const STATUSES: &str = "Exit statuses:
   0  done (in sim also where a step was refused: its line says so)
