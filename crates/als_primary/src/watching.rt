@@ -83,8 +83,10 @@ impl<R: Wait + Clock + Drop, A: Announces> Watching<'_, R, A> {
         let is_enough = self.others.ask(wanted, Duration::from_millis(MOMENT));
         if is_enough {
             self.shown.confirm();
-            self.board.set_state(State::Committing);
             self.delay.end();
+            if wanted.round != 0 || self.is_heard() {
+                self.board.set_state(State::Committing);
+            }
         } else {
             self.others.note(self.board);
             self.board.set_state(State::Unconfirmed);
@@ -148,6 +150,14 @@ impl<R: Wait + Clock + Drop, A: Announces> Watching<'_, R, A> {
         }
         if !self.shown.is_heard(now) {
             self.board.set_state(State::Unconfirmed);
+        }
+    }
+
+    /// Whether enough followers have answered what was asked no longer ago than commits are read for.
+    fn is_heard(&self) -> bool {
+        match self.clock.monotonic() {
+            Ok(now) => self.shown.is_heard(now),
+            Err(_) => self.others.count() == 0,
         }
     }
 
