@@ -10,6 +10,7 @@ top=$(dirname "$(readlink -f "${BASH_SOURCE[0]}")")
 crate="$top/crates/als_cli"
 program="$crate/out/als_cli"
 stamp="$crate/out/als.built"          # as old as the start of the last build, or gate, that succeeded
+kit="$crate/out/als.kit"              # the toolchain that proved it
 
 is_stale() {
     [[ -x $program && -e $stamp ]] || return 0
@@ -19,9 +20,15 @@ is_stale() {
 
 # ---- help, version and a wrong command line, with no build
 
-# The line that the program prints: its text stands once, in als_command.
+# The line that the program prints, whose text stands once, in als_command, and whether it was proved here.
 print_version() {
-    sed -n 's/^pub const VERSION: &str = "\(.*\)";$/als \1/p' "$top/crates/als_command/src/texts.rt"
+    local version
+    version=$(sed -n 's/^pub const VERSION: &str = "\(.*\)";$/als \1/p' "$top/crates/als_command/src/texts.rt")
+    if is_stale || [[ ! -s $kit ]]; then
+        echo "$version, not proved here"
+    else
+        echo "$version, proved with $(< "$kit")"
+    fi
     exit 0
 }
 
@@ -88,7 +95,6 @@ look_at_words() {
 answer() {
     case ${1-} in
         '') cat "$top/docs/help/als.txt" >&2 && exit 2 ;;
-        --version | -V) print_version ;;
         --help | -h) print_page als ;;
         help) answer_help "${@:2}" ;;
         -*) refuse "option '$1'" ;;
@@ -119,9 +125,13 @@ build() {
         echo "als: the build failed; what the prover said is above, and in $log" >&2
         exit 1
     fi
+    rt version | cut -d ' ' -f 1 > "$kit"
     mv "$began" "$stamp"
 }
 
+case ${1-} in
+    --version | -V) print_version ;;
+esac
 if is_stale; then
     answer "$@"
     build

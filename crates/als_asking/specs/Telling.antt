@@ -29,7 +29,7 @@ use Rattle.als_asking.specs.declared.outcome.Outcome.{Outcome}
 use Rattle.als_asking.specs.declared.outcome.Outcome.TheVariants.{Committed, Prepared, Decided, Refused, NotDecided, Unknown, NotBegun, Lost}
 use Rattle.als_asking.specs.declared.doubt.Doubt.{Doubt}
 use Rattle.als_asking.specs.declared.denied.Denied.{Denied as AnyDenied}
-use Rattle.als_asking.specs.declared.denied.Denied.TheVariants.{Host, Method, NoRead, Page, NoToken, OtherToken, Early}
+use Rattle.als_asking.specs.declared.denied.Denied.TheVariants.{Host, Method, NoRead, Page, NoToken, OtherToken, Early, Unheard}
 use Rattle.als_asking.specs.declared.unread.Unread.{Unread as AnyUnread}
 use Rattle.als_asking.specs.declared.unread.Unread.TheVariants as unread
 use Rattle.als_asking.specs.declared.told.Told.{Told}
@@ -74,6 +74,7 @@ status_of_denied Page = 403
 status_of_denied NoToken = 401
 status_of_denied OtherToken = 403
 status_of_denied Early = 503
+status_of_denied Unheard = 503
 
 abbrev pub status_of_unread : AnyUnread → ℕ
 status_of_unread unread.Memory = 503
@@ -268,6 +269,7 @@ why_denied Page = codes "a page of a browser may not commit"
 why_denied NoToken = codes "a commit brings the token: Authorization: Bearer TOKEN"
 why_denied OtherToken = codes "this is not the token"
 why_denied Early = codes "35 Warming: too few standbys have acknowledged the log with which this primary began"
+why_denied Unheard = codes "too few standbys have answered this primary of late: another node may have been taken over"
 
 -- the bytes of the text; what is wrong with a body is only tested
 unfoldable pub HasText : Told → List ℕ → Type 0

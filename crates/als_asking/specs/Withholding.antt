@@ -1,9 +1,10 @@
--- What is answered before the log with which a primary began is confirmed.
-use Rattle.std.specs.Prelude.{ℕ, Bool, ◌||◌, true, false, List, codes, bytes_eq}
+-- What is answered to who reads commits before the log with which a primary began is confirmed, and once too few standbys answer it.
+use Rattle.std.specs.Prelude.{ℕ, Bool, ◌||◌, ◌≡◌, ◌⊎◌, true, false, List, codes, bytes_eq}
 use Rattle.als_http.specs.Asking.{asked_by}
 use Rattle.als_http.specs.declared.asked.Asked.{Asked}
 use Rattle.als_http.specs.declared.asked.Asked.TheVariants.{Value, Page, Many}
-use Rattle.als_asking.specs.declared.denied.Denied.TheVariants.{Early}
+use Rattle.als_asking.specs.declared.denied.Denied.{Denied as AnyDenied}
+use Rattle.als_asking.specs.declared.denied.Denied.TheVariants.{Early, Unheard}
 use Rattle.als_asking.specs.declared.told.Told.{Told}
 use Rattle.als_asking.specs.declared.told.Told.TheVariants.{Denied}
 
@@ -18,6 +19,6 @@ reads_keys asked = false
 abbrev pub reads_commits : List ℕ → Bool
 reads_commits path = bytes_eq path (codes "/in-doubt") || reads_keys (asked_by path)
 
--- what is answered in its place
-abbrev pub early : Told
-early = Denied Early
+-- it is denied for the standbys' sake
+abbrev pub IsWithheld : AnyDenied → Type 0
+IsWithheld why = (why ≡ Early) ⊎ (why ≡ Unheard)

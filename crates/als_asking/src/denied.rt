@@ -15,4 +15,6 @@ pub enum Denied {
     OtherToken,
     /// It reads commits, and the log with which the primary began is not confirmed yet.
     Early,
+    /// It reads commits, and too few standbys have answered the primary of late: another node may have been taken over.
+    Unheard,
 }

@@ -108,7 +108,7 @@ fn add_denied(why: Denied, response: &mut Response) -> Result<(), AllocError>
         Denied::NoToken => {
             response.add_header(HeaderName::from_static("www-authenticate"), bearer())?;
         }
-        Denied::Host | Denied::Page | Denied::OtherToken | Denied::Early => {}
+        Denied::Host | Denied::Page | Denied::OtherToken | Denied::Early | Denied::Unheard => {}
     }
     Ok(())
 }

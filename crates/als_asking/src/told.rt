@@ -99,6 +99,6 @@ fn status_of_denied(why: Denied) -> StatusCode
         Denied::Method | Denied::NoRead => StatusCode::METHOD_NOT_ALLOWED,
         Denied::NoToken => StatusCode::UNAUTHORIZED,
         Denied::Page | Denied::OtherToken => StatusCode::FORBIDDEN,
-        Denied::Early => StatusCode::SERVICE_UNAVAILABLE,
+        Denied::Early | Denied::Unheard => StatusCode::SERVICE_UNAVAILABLE,
     }
 }

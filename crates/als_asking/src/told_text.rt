@@ -115,5 +115,8 @@ fn why_denied(why: Denied) -> &'static str
         Denied::Early => {
             "35 Warming: too few standbys have acknowledged the log with which this primary began"
         }
+        Denied::Unheard => {
+            "too few standbys have answered this primary of late: another node may have been taken over"
+        }
     }
 }

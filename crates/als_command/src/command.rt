@@ -83,6 +83,7 @@ pub enum Command<'a> {
         commit_timeout: u64,
         listen: Option<&'a str>,
         sync: u32,
+        read_for: Option<u64>,
         window: Option<u32>,
         followers: Option<&'a str>,
         timeout: u64,

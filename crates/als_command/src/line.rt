@@ -226,6 +226,12 @@ pub(crate) const LINES: [Line; 21] = [
                 help: "Answer a commit once K standbys acknowledged it, 0 to 8 [default: 0]",
                 is_wanted: false,
             },
+            Word::Long {
+                name: "read-for",
+                value: "SECONDS",
+                help: "How long it reads since K standbys answered, 1 to 3600 [default: 5]",
+                is_wanted: false,
+            },
             FOLLOWER,
             WINDOW,
             TIMEOUT,

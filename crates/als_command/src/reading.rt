@@ -226,6 +226,7 @@ fn primary<'a>(matches: &ArgMatches<'a>) -> Option<Command<'a>> {
         commit_timeout: matches.get_one("commit-timeout").unwrap_or(COMMIT_TIMEOUT),
         listen: matches.get_str("listen"),
         sync: matches.get_one("sync").unwrap_or(0),
+        read_for: matches.get_one("read-for"),
         window: matches.get_one("window"),
         followers: matches.get_str("follower"),
         timeout: matches.get_one("timeout").unwrap_or(TIMEOUT),

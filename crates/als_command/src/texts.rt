@@ -3,8 +3,8 @@
 pub const ABOUT: &str =
     "A hot standby that redoes the log which its primary ships (ARIES, continuous redo).";
 
-/// What `--version` prints behind the program's name. The kit is the one that proved the program.
-pub const VERSION: &str = "0.2.0, proved with rattle-kit-13f";
+/// What `--version` prints behind the program's name.
+pub const VERSION: &str = "0.2.0";
 
 pub const STATUSES: &str = "Exit statuses:
   0  done (in sim also where a step was refused: its line says so)
@@ -335,7 +335,9 @@ K standbys of different folders have acknowledged it. After a start nothing is r
 have acknowledged what the log held then. Where fewer are there it waits, and
 never answers with less: a transaction that is not begun after SECONDS is 503, one that was is
 504 with its LSN. /health and /primary are 503 then, and before K have been seen after a start;
-standard error says so once a minute. With --follower only standbys at these addresses may
+standard error says so once a minute. It asks them once a second; keys are read (else 503) while K
+have answered what it asked at most the SECONDS of --read-for ago, so that a primary that was
+deposed or cut off answers nothing older than that. With --follower only standbys at these addresses may
 connect, and only they count; without it whoever connects does. `als ship --dir DIR` serves the
 log while it does not run.
 
@@ -352,9 +354,9 @@ Exit statuses: 2 a fault of the command line, of FILE or of ADDR without it, 3
       one out; or control.blk is missing, but log.blk or pages.blk has data. Nothing was touched
   32  there was no memory for what DIR holds: it may be run again
   33, 34, 1 to 16 a file of it is damaged; 34 also: the database has another number of pages than N
-  37  N is not 1 to 4,096, B not 1 to 4,194,304, C not 1 to 64, the SECONDS of --commit-timeout not
-      1 to 3,600 or those of --timeout over 3,600, K over 8, W not 1 to 64, ADDRS no addresses, or K,
-      W or ADDRS given without --listen; or the log has fewer blocks than B. Nothing was touched;
+  37  N is not 1 to 4,096, B not 1 to 4,194,304, C not 1 to 64, the SECONDS of --commit-timeout or
+      --read-for not 1 to 3,600 or those of --timeout over 3,600, K over 8, W not 1 to 64, ADDRS no addresses, or K,
+      W or ADDRS given without --listen, --read-for without --sync; or the log has fewer blocks than B. Nothing was touched;
       standard error names the option
   44  ADDR or HOST:PORT can't be listened at
   46  DIR is the folder of a standby: `als takeover` first, where its primary is gone";

@@ -74,7 +74,7 @@ pub(crate) fn begin<
         readers,
     } = entrance;
     let board = board_of(alloc, engine, capacity, serving.sync)?;
-    let (doubts, shown) = shared(alloc, serving.sync)?;
+    let (doubts, shown) = shared(alloc, serving.sync, serving.read_for)?;
     let (leader, askers) = seats::<Work, Answer, O, J>(
         alloc,
         seats_of(serving.connections),
@@ -110,17 +110,21 @@ fn seats_of(connections: u64) -> u32
     connections.min(CONNECTIONS) as u32 + 3
 }
 
-/// What the threads share: nothing is looked up yet, and nothing is confirmed if that takes followers.
+/// What the threads share: nothing is looked up yet, and nothing is confirmed if that takes followers, which have to answer
+/// each so many seconds for commits to be read.
 fn shared(
     alloc: Global,
     sync: u32,
+    read_for: u64,
 ) -> Result<(Arc<Doubts, Global>, Arc<Shown, Global>), AllocError> {
     let doubts = Arc::new(alloc, Doubts::new(alloc))?;
-    let shown = Arc::new(alloc, Shown::new())?;
-    if sync == 0 {
-        shown.confirm();
+    if sync > 0 {
+        let shown = Shown::new(Some(Duration::from_secs(read_for)));
+        return Ok((doubts, Arc::new(alloc, shown)?));
     }
-    Ok((doubts, shown))
+    let shown = Shown::new(None);
+    shown.confirm();
+    Ok((doubts, Arc::new(alloc, shown)?))
 }
 
 /// The state in which a primary begins: where a commit waits for followers, none is confirmed before they were

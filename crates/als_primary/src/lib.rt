@@ -50,6 +50,7 @@ mod watching;
 mod answers;
 // What the leader and the sessions of its followers share.
 mod others;
+mod pulse;
 // How long followers are waited for.
 mod delay;
 // The sessions of followers.

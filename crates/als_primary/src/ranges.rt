@@ -10,7 +10,7 @@ use als_operate::Fault;
 use als_quorum::SEATS;
 use als_sending::WINDOW_LIMIT;
 
-/// The most seconds that a transaction may wait to begin, or a frame of a follower may take.
+/// The most seconds that a transaction may wait to begin, a frame of a follower may take, or a primary reads unheard.
 const PATIENCE: u64 = 3_600;
 
 /// Refuses numbers that are out of range: BadConfig.
@@ -34,6 +34,9 @@ fn are_in_range(serving: Serving<'_>) -> bool
         return false;
     }
     if serving.commit_timeout < 1 || serving.commit_timeout > PATIENCE {
+        return false;
+    }
+    if serving.read_for < 1 || serving.read_for > PATIENCE {
         return false;
     }
     if serving.window < 1 || serving.window > WINDOW_LIMIT {

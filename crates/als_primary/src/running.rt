@@ -13,6 +13,7 @@ use crate::desk::Desk;
 use crate::following::{Shipping, allowed_of, follow};
 use crate::guarding::guard_of;
 use crate::others::Others;
+use crate::pulse::Pulse;
 use crate::ranges::check_numbers;
 use crate::refusal::Refusal;
 use crate::serving::Serving;
@@ -276,6 +277,7 @@ fn stand_as<
         others,
         moments: moments_of(serving.commit_timeout),
         delay: Delay::NONE,
+        pulse: Pulse::within(serving.read_for),
         followers: followers.as_ref(),
         short: 0,
         undone: 0,

@@ -18,7 +18,7 @@ use std::time::{Clock, Duration};
 type Reads<R> = Answering<Watch<R>>;
 
 /// The service of a thread.
-pub(crate) type Service<R, O, J> = Withheld<Asking<Chair<R, O, J>, Lent<Reads<R>, R>>>;
+pub(crate) type Service<R, O, J> = Withheld<Asking<Chair<R, O, J>, Lent<Reads<R>, R>>, R>;
 
 /// What the services of all threads have in common.
 #[derive(Drop)]
@@ -77,7 +77,8 @@ impl<R: Wait + Clock + Clone + Drop> Common<'_, R> {
         let lent = Lent::new(self.rt.clone()?, reads);
         let guard = copy_of(self.alloc, self.guard)?;
         let asking = Asking::new(self.alloc, guard, self.hosts, chair, lent);
-        Ok(Withheld::new(self.alloc, Arc::try_clone(self.shown)?, asking))
+        let shown = Arc::try_clone(self.shown)?;
+        Ok(Withheld::new(self.alloc, self.rt.clone()?, shown, asking))
     }
 }
 

@@ -19,6 +19,8 @@ pub struct Serving<'a> {
     pub listen: Option<&'a str>,
     /// How many followers of different folders have to acknowledge a commit before its answer, 0 to 8.
     pub sync: u32,
+    /// The seconds since `sync` followers answered for which it reads commits, 1 to 3,600.
+    pub read_for: u64,
     /// The frames that a follower's session may have on their way unanswered, 1 to 64.
     pub window: u32,
     /// The seconds that a frame of a follower's session may take, at most 3,600. 0: no limit.

@@ -7,6 +7,7 @@ use crate::announcing::Announces;
 use crate::delay::Delay;
 use crate::doubts::Doubts;
 use crate::others::Others;
+use crate::pulse::Pulse;
 use als_asking::Shown;
 use als_engine::{Events, Fault, Status};
 use als_folder::NameWatch;
@@ -54,6 +55,7 @@ pub(crate) struct Watching<'a, R: Wait + Drop, A> {
     /// The most moments for which a group waits for followers.
     pub moments: u64,
     pub delay: Delay,
+    pub pulse: Pulse,
     /// The sessions. None: nobody may follow.
     pub followers: Option<&'a Followers<NodeSource<R, File>>>,
     /// How often in a row memory was refused to the readers' list.
@@ -81,8 +83,10 @@ impl<R: Wait + Clock + Drop, A: Announces> Watching<'_, R, A> {
         let is_enough = self.others.ask(wanted, Duration::from_millis(MOMENT));
         if is_enough {
             self.shown.confirm();
-            self.board.set_state(State::Committing);
             self.delay.end();
+            if wanted.round != 0 || self.is_heard() {
+                self.board.set_state(State::Committing);
+            }
         } else {
             self.others.note(self.board);
             self.board.set_state(State::Unconfirmed);
@@ -117,6 +121,68 @@ impl<R: Wait + Clock + Drop, A: Announces> Watching<'_, R, A> {
             }
         }
         self.ask(wanted)
+    }
+}
+
+impl<R: Wait + Clock + Drop, A: Announces> Watching<'_, R, A> {
+    /// Learns, once a second while nobody commits, whether the followers still follow. Where enough of them have not
+    /// answered for as long as commits are read, the primary is unconfirmed.
+    fn beat(&mut self, end: Lsn)
+        ensures keeps { (blocks : List Block) (k n : ℕ)
+            → IsConfirmed blocks k self.old.others.answers n
+            → IsConfirmed blocks k self.new.others.answers n }
+        ensures misses { (blocks : List Block) (k n : ℕ)
+            → IsMissed blocks k self.old.others.answers n
+            → IsMissed blocks k self.new.others.answers n }
+        ensures same { self.new.others.count ≡ self.old.others.count }
+        ensures whose { self.new.others.quorum ≡ self.old.others.quorum }
+    {
+        let Ok(now) = self.clock.monotonic() else {
+            return;
+        };
+        if self.others.count() == 0 {
+            return;
+        }
+        self.listen();
+        if self.pulse.is_due(now) {
+            let wanted = self.others.begin_round(end);
+            self.pulse.begin(wanted.round, now);
+        }
+        if !self.shown.is_heard(now) {
+            self.board.set_state(State::Unconfirmed);
+        }
+    }
+
+    /// Whether enough followers have answered what was asked no longer ago than commits are read for.
+    fn is_heard(&self) -> bool {
+        match self.clock.monotonic() {
+            Ok(now) => self.shown.is_heard(now),
+            Err(_) => self.others.count() == 0,
+        }
+    }
+
+    /// Looks whether enough followers have answered the round that is on its way.
+    fn listen(&mut self)
+        ensures keeps { (blocks : List Block) (k n : ℕ)
+            → IsConfirmed blocks k self.old.others.answers n
+            → IsConfirmed blocks k self.new.others.answers n }
+        ensures misses { (blocks : List Block) (k n : ℕ)
+            → IsMissed blocks k self.old.others.answers n
+            → IsMissed blocks k self.new.others.answers n }
+        ensures same { self.new.others.count ≡ self.old.others.count }
+        ensures whose { self.new.others.quorum ≡ self.old.others.quorum }
+    {
+        let Some((wanted, began)) = self.pulse.wanted() else {
+            return;
+        };
+        if !self.others.ask(wanted, Duration::ZERO) {
+            return;
+        }
+        self.pulse.end();
+        self.shown.hear(began);
+        if self.shown.is_confirmed() && !self.delay.is_on() {
+            self.board.set_state(State::Committing);
+        }
     }
 }
 
@@ -228,6 +294,7 @@ impl<R: Wait + Clock + Files<File = File> + Drop, A: Announces> Upkeep for Watch
         }
         let status = engine.status();
         self.others.show(status.acknowledged);
+        self.beat(status.acknowledged);
         note(
             self.board,
             self.clock,
@@ -244,8 +311,13 @@ impl<R: Wait + Clock + Files<File = File> + Drop, A: Announces> Upkeep for Watch
     // Also a group that wrote nothing is answered only once enough followers have answered a frame that was sent after it
     // was taken: by a primary that nobody follows any more, another one may have gone on.
     fn confirm(&mut self, end: Lsn) -> Result<bool, Fault> {
+        let began = self.clock.monotonic();
         let wanted = self.others.begin_round(end);
-        Ok(self.ask_long(wanted))
+        let is_enough = self.ask_long(wanted);
+        if let (true, Ok(began)) = (is_enough, began) {
+            self.shown.hear(began);
+        }
+        Ok(is_enough)
     }
 
     fn has_confirmed(&mut self, end: Lsn) -> Result<bool, Fault> {

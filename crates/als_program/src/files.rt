@@ -55,6 +55,9 @@ const LOG_BLOCKS: u64 = 2_048;
 /// The frames that are sent ahead of their answers, where the command line does not say.
 pub const WINDOW: u32 = 16;
 
+/// For how many seconds since its standbys answered a primary reads, where the command line does not say.
+pub const READ_FOR: u64 = 5;
+
 /// The threads that answer reads, where the command line does not say.
 const READERS: u64 = 2;
 

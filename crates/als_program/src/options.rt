@@ -54,10 +54,12 @@ pub fn misplaced(command: Command<'_>) -> Option<Mistake<'static>> {
         Command::Primary {
             listen,
             sync,
+            read_for,
             window,
             followers,
             ..
         } => alone("--sync", "--listen", sync > 0, listen.is_some())
+            .or(alone("--read-for", "--sync", read_for.is_some(), sync > 0))
             .or(alone("--window", "--listen", window.is_some(), listen.is_some()))
             .or(alone(
                 "--follower",
@@ -177,6 +179,7 @@ fn ranged_of_primary(command: Command<'_>) -> Option<Mistake<'static>> {
             connections,
             commit_timeout,
             sync,
+            read_for,
             window,
             timeout,
             ..
@@ -186,6 +189,7 @@ fn ranged_of_primary(command: Command<'_>) -> Option<Mistake<'static>> {
             ("--connections", Some(connections), 1, 64),
             ("--commit-timeout", Some(commit_timeout), 1, SECONDS),
             ("--sync", Some(u64::from(sync)), 0, 8),
+            ("--read-for", read_for, 1, SECONDS),
             ("--window", window.map(u64::from), 1, 64),
             ("--timeout", Some(timeout), 0, SECONDS),
         ]),

@@ -3,7 +3,7 @@ ghost use Rattle.als_program.specs.Status.{IsStatus};
 
 use crate::committing::commit_lines;
 use crate::failure::Failure;
-use crate::files::{WINDOW, named_in, operate, refused};
+use crate::files::{READ_FOR, WINDOW, named_in, operate, refused};
 use crate::lines::{Telling, make_lines, run_script};
 use crate::options::misplaced;
 use crate::refusal::Refusal;
@@ -195,6 +195,7 @@ fn obey<
             commit_timeout,
             listen,
             sync,
+            read_for,
             window,
             followers,
             timeout,
@@ -211,6 +212,7 @@ fn obey<
                 commit_timeout,
                 listen,
                 sync,
+                read_for: read_for.unwrap_or(READ_FOR),
                 window: window.unwrap_or(WINDOW),
                 timeout,
                 followers: followers.as_slice(),

@@ -39,6 +39,7 @@ pub fn serves<
         commit_timeout: 10,
         listen: Some("127.0.0.1:0"),
         sync: 1,
+        read_for: 5,
         window: 16,
         timeout: 20,
         followers: &[],

@@ -53,7 +53,7 @@ fn help_is_written(rt: HostRuntime) {
     ] {
         asks(&rt, &["als", command, "--help"], "      --explain");
     }
-    asks(&rt, &["als", "--version"], ", proved with rattle-kit-");
+    asks(&rt, &["als", "--version"], "als 0.2.0");
 }
 
 /// A fault of the command line is printed on standard error and ends with 2.
