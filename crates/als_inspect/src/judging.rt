@@ -1,6 +1,6 @@
-ghost use Rattle.std.specs.Prelude.{◌≡◌, ◌≤◌, ◌↔◌, IsTrue, Err};
+ghost use Rattle.std.specs.Prelude.{◌≡◌, ◌≤◌, ◌↔◌, IsTrue, Err, IsOk, IfOk, IfErr, OnOk};
 ghost use Rattle.als_inspect.specs.declared.fault.Fault.{Fault as AnyFault};
-ghost use Rattle.als_inspect.specs.Meeting.{IsOfControl};
+ghost use Rattle.als_inspect.specs.Meeting.{IsOfControl, IsOfPage};
 
 use crate::counting::read_all_telling;
 use crate::fault::Fault;
@@ -49,10 +49,38 @@ pub(crate) fn first_fault<R: AllocGlobal + Files<File = File> + Wait, A: Advance
     of_pages: Fault,
     advance: &mut A,
 ) -> Fault {
-    match judge_before_pages(rt, folder, advance) {
+    met_before(of_pages, judge_before_pages(rt, folder, advance))
+}
+
+/// What a restart meets first where this is wrong with the pages, and this became of all that comes before them.
+fn met_before(of_pages: Fault, before: Result<(), Fault>) -> Fault
+    ensures first { IfErr before (λ fault. result ≡ fault) }
+    ensures other { IfOk before (λ _. result ≡ of_pages) }
+{
+    match before {
         Ok(()) => of_pages,
         Err(fault) => fault,
     }
+}
+
+/// What of a restart comes before each page. Its redo meets the pages in the order in which their changes wait, so
+/// a fault of a page is not named here.
+pub(crate) fn before_pages(restarted: Result<(), Fault>) -> Result<(), Fault>
+    ensures done { OnOk restarted (result ≡ restarted) }
+    ensures page { IfErr restarted (λ fault. IsOfPage fault → IsOk result) }
+    ensures other { IfErr restarted (λ fault. (IsOfPage fault → ⊥) → result ≡ restarted) }
+{
+    match restarted {
+        Err(fault) if is_of_page(fault) => Ok(()),
+        Ok(()) | Err(_) => restarted,
+    }
+}
+
+/// Whether a fault is 33 BadPage.
+fn is_of_page(fault: Fault) -> bool
+    ensures { IsTrue result ↔ IsOfPage fault }
+{
+    fault.number() == 33
 }
 
 /// Judges all that a restart meets before it reads a page: also whether the log has room for a takeover.

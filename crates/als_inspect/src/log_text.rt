@@ -1,4 +1,4 @@
-ghost use Rattle.std.specs.Prelude.{◌≤◌, ◌*◌, ℕ, IfOk};
+ghost use Rattle.std.specs.Prelude.{◌≡◌, ◌≤◌, ◌*◌, ℕ, IfOk, IfErr};
 ghost use Rattle.als_disk.specs.MemDisk.{mem_blocks, mem_slot};
 ghost use Rattle.als_disk.specs.Slot.{IsSettled};
 
@@ -129,13 +129,16 @@ pub fn database_of(alloc: Global, files: &DeviceFiles) -> Result<Database, Fault
 {
     match said_by(alloc, files) {
         Ok(database) => Ok(database),
-        Err(fault) => Err(first_wrong(alloc, files, fault)),
+        Err(fault) => Err(first_wrong(fault, whole_database_of(alloc, files))),
     }
 }
 
-/// What is wrong with the files of a folder of which this is wrong.
-fn first_wrong(alloc: Global, files: &DeviceFiles, fault: Fault) -> Fault {
-    match whole_database_of(alloc, files) {
+/// What is wrong first with files of which this is wrong, where this is their whole database.
+fn first_wrong(fault: Fault, whole: Result<Database, Fault>) -> Fault
+    ensures first { IfErr whole (λ first. result ≡ first) }
+    ensures other { IfOk whole (λ _. result ≡ fault) }
+{
+    match whole {
         Ok(_) => fault,
         Err(first) => first,
     }

@@ -1,6 +1,6 @@
 use crate::fault::Fault;
 use crate::heads::whole_database_of;
-use crate::judging::{judge_log, judge_text};
+use crate::judging::{before_pages, judge_log, judge_text};
 use crate::log_text::text_of_file;
 use crate::page_checking::check_folder;
 use crate::quiet::Quiet;
@@ -177,11 +177,7 @@ fn judge_folder<R: AllocGlobal + Files<File = File> + Wait, P: Progress + Advanc
     let (records, end) = judge_log(rt, &folder, progress)?;
     let digest = digest_of_folder(rt, path, end, progress)?;
     let restarted = restart(rt, &folder, progress);
-    match restarted {
-        Err(fault) if !is_of_page(fault) => return Err(Unsound::from(fault)),
-        Ok(()) | Err(_) => {}
-    }
-    // The redo of a restart meets pages in the order in which their changes wait.
+    before_pages(restarted)?;
     check_folder(rt, &folder, progress)?;
     restarted?;
     Ok(Found {
@@ -189,11 +185,6 @@ fn judge_folder<R: AllocGlobal + Files<File = File> + Wait, P: Progress + Advanc
         end,
         digest,
     })
-}
-
-/// Whether a fault is one of a page.
-fn is_of_page(fault: Fault) -> bool {
-    matches!(fault.kind(), FaultKind::BadPage { page: _ })
 }
 
 /// The folder, for programs that read alone.
