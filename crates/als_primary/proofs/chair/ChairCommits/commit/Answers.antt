@@ -1,10 +1,9 @@
-use Rattle.std.proofs.Common.{rules, ◌≡◌, is_ok, List, [], ◌∷◌, ◌++◌, map, sym, subst, ap, ◌∙◌, append_assoc}
+use Rattle.std.proofs.Common.{rules, ◌≡◌, is_ok, List, [], ◌∷◌, ◌++◌, map, sym, ap, ◌∙◌, append_assoc}
 use Rattle.std.proofs.lemmas.List.{map-append}
 use Rattle.als_seats.specs.declared.outcome.Outcome.{Outcome}
 use Rattle.als_lead.specs.declared.answer.Answer.{Answer}
 use Rattle.als_asking.specs.declared.outcome.Outcome.{Outcome as Fate}
-use Rattle.als_tickets.specs.Replies.{AreOwed}
-use Rattle.als_primary.specs.Fates.{fate_of, AreFates}
+use Rattle.als_primary.specs.Fates.{fate_of}
 use Rattle.als_primary.proofs.Outcomes.{none_told, fates_so_far, not_pushed}
 use Rattle.als_primary.proofs.chair.ChairCommits.commit.Goals as goal
 use Rattle.als_primary.proofs.chair.ChairCommits.commit.Goals.{in-None, in-Some+then-is_err}
