@@ -1,5 +1,5 @@
 -- What the leader told is what is answered over HTTP.
-use Rattle.std.proofs.Common.{◌≡◌, Bool, true, not, List, [], ◌∷◌, ◌++◌, map, refl, sym, subst, ap, ◌∙◌}
+use Rattle.std.proofs.Common.{◌≡◌, if◌then◌else◌, Bool, true, not, List, [], ◌∷◌, ◌++◌, map, refl, sym, subst, ap, ◌∙◌}
 use Rattle.als_writer.specs.declared.work.Work.{Work}
 use Rattle.als_seats.specs.declared.outcome.Outcome.{Outcome}
 use Rattle.als_seats.specs.declared.outcome.Outcome.TheVariants as outcome
@@ -41,4 +41,4 @@ fates_so_far may_tell asked done rest told fates is joins owed =
 
 -- what was not pushed leaves the list
 pub not_pushed : {X : Type 0} (done failed : Bool) (now more old : List X) → now ≡ (if done then more else old) → done ≡ not failed → failed ≡ true → now ≡ old
-not_pushed {X} done failed now more old is other yes = is ∙ ap (λ (b : Bool). if b then more else old) (other ∙ ap not yes)
+not_pushed {X} done failed now more old is other fails = is ∙ ap (λ (b : Bool). if b then more else old) (other ∙ ap not fails)

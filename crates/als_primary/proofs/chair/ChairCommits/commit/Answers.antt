@@ -1,10 +1,9 @@
-use Rattle.std.proofs.Common.{rules, ◌≡◌, List, [], ◌∷◌, ◌++◌, map, sym, subst, ap, ◌∙◌, append_assoc}
+use Rattle.std.proofs.Common.{rules, ◌≡◌, is_ok, List, [], ◌∷◌, ◌++◌, map, sym, ap, ◌∙◌, append_assoc}
 use Rattle.std.proofs.lemmas.List.{map-append}
 use Rattle.als_seats.specs.declared.outcome.Outcome.{Outcome}
 use Rattle.als_lead.specs.declared.answer.Answer.{Answer}
 use Rattle.als_asking.specs.declared.outcome.Outcome.{Outcome as Fate}
-use Rattle.als_tickets.specs.Replies.{AreOwed}
-use Rattle.als_primary.specs.Fates.{fate_of, AreFates}
+use Rattle.als_primary.specs.Fates.{fate_of}
 use Rattle.als_primary.proofs.Outcomes.{none_told, fates_so_far, not_pushed}
 use Rattle.als_primary.proofs.chair.ChairCommits.commit.Goals as goal
 use Rattle.als_primary.proofs.chair.ChairCommits.commit.Goals.{in-None, in-Some+then-is_err}
@@ -34,7 +33,8 @@ returns g c =
     elim c.match-next.branch [
       | in-None w ↦ ap (λ v. v.items) w.fates-is ∙ i.0
       | in-Some+then-is_err w ↦
-          ap (λ v. v.items) w.fates-is ∙ not_pushed _ _ _ _ _ w.push.ensures.items w.is_err.ensures.negation w.if-is_err.true ∙ i.0
+          ap (λ v. v.items) w.fates-is ∙ not_pushed (is_ok w.push.result) w.is_err.result w.push.new.self.items (c.loop-outcome.fates.items ++ w.fate_of.result ∷ []) c.loop-outcome.fates.items w.push.ensures.items w.is_err.ensures.negation w.if-is_err.true ∙ i.0
     ] in
-    fates_so_far g.O.Oath.may_tell c.args.asked.items c.loop-outcome.yielded c.loop-outcome.outcome-iterator.rest.items c.in-Ok-ask.outcomes.items c.match-next.fates.items so_far i.1
-    c.in-Ok-ask.ensures
+    let whole : c.into_iter-outcome-iterator.result.rest.items ≡ c.in-Ok-ask.outcomes.items = search rules in
+    fates_so_far g.O.Oath.may_tell c.args.asked.items c.loop-outcome.yielded c.loop-outcome.outcome-iterator.rest.items c.in-Ok-ask.outcomes.items c.match-next.fates.items so_far
+    (i.1 ∙ whole) c.in-Ok-ask.ensures
