@@ -161,7 +161,8 @@ def goes_on(counted, until):
 
 
 def failover(program, room, token_file, kills):
-    """Counters of four clients, of which each answer may be cut off, while the primary is killed, restarted, or taken over."""
+    """Counters of four clients, of which each answer may be cut off, while the primary is killed, restarted, or taken over. A kill takes some ten seconds: the
+    standby asks again after that."""
     nodes = [Node(program, f"{room}/{name}") for name in "ab"]
     first, second = nodes
     first.lay_out()
@@ -173,6 +174,7 @@ def failover(program, room, token_file, kills):
     for thread in threads:
         thread.start()
     for number in range(kills):
+        print(f"kill {number}: {sum(counted.values())} counted", file=sys.stderr, flush=True)
         goes_on(counted, sum(counted.values()) + 20)
         time.sleep(rng.uniform(0, 0.5))
         first.kill()
