@@ -36,6 +36,7 @@ enum Heard {
 }
 
 /// A clock that stands still, 100 seconds after its start.
+#[derive(Drop)]
 struct Stopped;
 
 impl Clock for Stopped {
